@@ -1,0 +1,4 @@
+pub mod class;
+pub mod bytes;
+pub mod flags;
+pub mod date;
