@@ -2,7 +2,7 @@
 use mathlib.Core.Bool.{Bool, true, false, cond, not, _&&_, _||_}
 use mathlib.Core.List.{List, [], _∷_, _++_}
 use Prim.Native.Nat.{ℕ, zero, suc, _+_, _-_, _*_, _/_, _%_}
-use lib.ListN.{length, take, drop}
+use lib.ListN.{length, take, drop, replicate}
 use lib.Dec.{leb, eqb}
 use Rattle.fields.specs.declared.class.Class.{Class}
 use Rattle.fields.specs.declared.class.Class.the-variants.{Digit, Letter, Plain, Printable, Only}
@@ -39,3 +39,7 @@ value bs = value-after 0 bs
 abbrev pub padded : ℕ → ℕ → List ℕ
 padded zero n = []
 padded (suc w) n = padded w (n / 10) ++ ((48 + n % 10) ∷ [])
+
+-- the text of n columns: the first n bytes, or blanks where there are fewer
+unfoldable pub text : ℕ → List ℕ → List ℕ
+text n bs = cond (leb n (length bs)) (take n bs) (replicate n 32)

@@ -54,3 +54,11 @@ pub fn number(bytes: &[u8]) -> u64
     }
     sum
 }
+
+// The number in the columns `first` to `last` of a row, up to the largest number a u32 holds.
+pub fn number_in(row: &[u8], first: u16, last: u16) -> u32
+    ensures capped { λ r. ⌜ r ≡ min (value (columns first last (now (row .entry)))) 4294967295 ⌝ }
+    ensures short { λ r. ⌜ (last ≤ first + 7 → r ≡ value (columns first last (now (row .entry)))) ⌝ }
+{
+    number(part(row, first, last)).min(u64::from(u32::MAX)) as u32
+}

@@ -1,11 +1,14 @@
 // A day of the calendar.
+ghost use Prim.Native.Nat.{_+_, _*_};
 ghost use Rattle.fields.specs.Calendar.{date, day-of, days, leap, on-calendar, within};
 ghost use Rattle.std.specs.Options.{mapped};
+ghost use Rattle.std.specs.Written.{decimal};
+ghost use Rattle.std.specs.declared.option.Option.the-variants.{Some};
 ghost use mathlib.Core.Bool.{true};
 ghost use mathlib.Core.Path.{_≡_};
-use crate::bytes::number;
-use crate::bytes::part;
+use crate::bytes::number_in;
 use crate::class::Class;
+use std::fmt;
 
 // A day of the Gregorian calendar in the years 2000 to 9999, and nothing else.
 #[derive(Clone, Copy, PartialEq, Eq, PartialOrd, Ord, Debug)]
@@ -54,5 +57,30 @@ impl Date {
         } else {
             None
         }
+    }
+
+    // The day that eight columns YYYYMMDD write.
+    pub fn read(bytes: &[u8]) -> Option<Date>
+        ensures { λ r. ⌜ mapped (λ d. (d .year, d .month, d .day)) r ≡ date (now (bytes .entry)) ⌝ }
+    {
+        if bytes.len() != 8 || !Class::Digit.spans(bytes) {
+            return None;
+        }
+        Date::new(number_in(bytes, 1, 4), number_in(bytes, 5, 6), number_in(bytes, 7, 8))
+    }
+
+    pub fn year(&self) -> u16
+        ensures { λ r. ⌜ r ≡ now (self .entry) .year ⌝ }
+    {
+        self.year
+    }
+}
+
+pub impl fmt::Display for Date as DateDisplay {
+    ghost shown = { λ d. Some (decimal (d .year * 10000 + d .month * 100 + d .day)) };
+
+    fn fmt<W: fmt::Write>(&self, f: &mut fmt::Formatter<W>) -> fmt::Result {
+        let digits = u32::from(self.year) * 10000 + u32::from(self.month) * 100 + u32::from(self.day);
+        write!(f, "{digits}")
     }
 }
