@@ -1,2 +1,3 @@
-pub mod Values
 pub mod Days
+pub mod FirstFault
+pub mod Values

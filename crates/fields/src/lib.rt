@@ -3,3 +3,7 @@ pub mod bytes;
 pub mod flags;
 pub mod date;
 pub mod text;
+pub mod parts;
+pub mod fault;
+pub mod rule;
+pub mod checker;
