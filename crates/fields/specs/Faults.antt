@@ -2,6 +2,7 @@
 use mathlib.Core.List.{List, _++_}
 use Prim.Native.Nat.{ℕ}
 use lib.Chars.{codes}
+use lib.Utf8.{encode}
 use Rattle.std.specs.Written.{decimal}
 use Rattle.fields.specs.declared.fault.FieldFault.{FieldFault}
 use Rattle.fields.specs.declared.fault.FieldFault.the-variants.{NotOfType, NotAllowed, NotEqual}
@@ -23,7 +24,28 @@ layer-name Entry = codes "entry"
 layer-name Run = codes "run"
 layer-name Copy = codes "copy"
 
+-- the six parts as a fault prints them
+abbrev pub line : Parts → List ℕ
+line p =
+    decimal (p .number) ++ (codes " " ++ (layer-name (p .layer) ++ (codes " " ++ (encode (p .letter)
+    ++ (codes " row " ++ (decimal (p .row) ++ (codes " field " ++ (decimal (p .field)
+    ++ (codes " record " ++ decimal (p .«record»))))))))))
+
+-- a fault's whole line: its parts and, in brackets, what to repair
+abbrev pub with-advice : Parts → List ℕ → List ℕ
+with-advice p advice = line p ++ (codes " (" ++ (advice ++ codes ")"))
+
+abbrev pub field-of : FieldFault → ℕ
+field-of (NotOfType f) = f
+field-of (NotAllowed f) = f
+field-of (NotEqual f) = f
+
 abbrev pub field-parts : FieldFault → Parts
 field-parts (NotOfType f) = record { number = 4; layer = Field; letter = untold; row = 0; field = f; «record» = 0 }
 field-parts (NotAllowed f) = record { number = 5; layer = Field; letter = untold; row = 0; field = f; «record» = 0 }
 field-parts (NotEqual f) = record { number = 6; layer = Field; letter = untold; row = 0; field = f; «record» = 0 }
+
+abbrev pub field-advice : FieldFault → List ℕ
+field-advice (NotOfType f) = codes "the field is not of its type, or it is mandatory and blank"
+field-advice (NotAllowed f) = codes "the field holds a content that is not allowed"
+field-advice (NotEqual f) = codes "the field is not equal to the head's supplier or to the composed file name"

@@ -28,6 +28,11 @@ use Rattle.fields.specs.declared.rule.Need.the-variants.{Mandatory, Optional}
 use Rattle.fields.specs.Bytes.{blank, columns, every, padded, value}
 use Rattle.fields.specs.Calendar.{date, within}
 
+-- a line of a table: the field's number, its first and last column, and its rule
+abbrev pub field : ℕ → ℕ → ℕ → FieldType → Need → Content → Field
+field n first last t need content =
+    record { number = n; first = first; last = last; holds = t; need = need; content = content }
+
 -- an optional field may be blank throughout
 abbrev pub left-blank : Need → List ℕ → Bool
 left-blank Mandatory bs = false
