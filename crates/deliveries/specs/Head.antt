@@ -2,8 +2,7 @@
 use mathlib.Core.Path.{_≡_}
 use mathlib.Core.Bool.{Bool, true, false, cond, not, _&&_}
 use mathlib.Core.List.{List, [], _∷_}
-use Prim.Native.Nat.{ℕ, _+_, _*_}
-use lib.Chars.{codes}
+use Prim.Native.Nat.{ℕ, _+_, _*_, _≤_}
 use lib.Dec.{ltb, eqb}
 use lib.ListN.{length}
 use Rattle.std.specs.declared.option.Option.{Option}
@@ -12,8 +11,6 @@ use Rattle.std.specs.declared.result.Result.{Result}
 use Rattle.std.specs.declared.result.Result.the-variants.{Ok, Err}
 use Rattle.fields.specs.declared.fault.FieldFault.{FieldFault}
 use Rattle.fields.specs.declared.flags.KeyFlag.the-variants.{NoAmendment}
-use Rattle.fields.specs.declared.parts.Layer.the-variants as layer
-use Rattle.fields.specs.declared.parts.Parts.{Parts}
 use Rattle.fields.specs.declared.rule.Content.the-variants.{Any, Between, Day}
 use Rattle.fields.specs.declared.rule.Context.{Context}
 use Rattle.fields.specs.declared.rule.Field.{Field}
@@ -21,7 +18,7 @@ use Rattle.fields.specs.declared.rule.FieldType.the-variants.{Numeric}
 use Rattle.fields.specs.declared.rule.Need.the-variants.{Mandatory}
 use Rattle.fields.specs.Bytes.{columns, value}
 use Rattle.fields.specs.Calendar.{date}
-use Rattle.fields.specs.Faults.{field-of, untold}
+use Rattle.fields.specs.Faults.{field-of}
 use Rattle.fields.specs.Rules.{checked, field}
 use Rattle.deliveries.specs.declared.fault.HeadFault.{HeadFault}
 use Rattle.deliveries.specs.declared.fault.HeadFault.the-variants.{Short, BrokenField, WrongSize}
@@ -60,6 +57,12 @@ pub record Bears (bs : List ℕ) (h : Head) : Type 0 where
   pub first-day : Some (h .«first_day» .year, h .«first_day» .month, h .«first_day» .day) ≡ date (columns 38 45 bs)
   pub version : h .version ≡ value (columns 46 47 bs)
 
+-- a head of 47 bytes at least whose fields all keep their rules
+pub record Whole (bs : List ℕ) (h : Head) : Type 0 where
+  pub long : 47 ≤ length bs
+  pub kept : Ok tt ≡ checked no-context bs head-table
+  pub bears : Bears bs h
+
 abbrev pub bytes-in : Extent → ℕ
 bytes-in e = e .rows * e .length
 
@@ -79,8 +82,3 @@ after-fields bs (Ok _) = cond (right-size bs) None (Some WrongSize)
 -- the first fault of a head, none where it keeps its rules
 unfoldable pub head-fault : List ℕ → Option HeadFault
 head-fault bs = cond (ltb (length bs) 47) (Some Short) (after-fields bs (checked no-context bs head-table))
-
-abbrev pub head-parts : HeadFault → Parts
-head-parts Short = record { number = 1; layer = layer.Head; letter = untold; row = 0; field = 0; «record» = 0 }
-head-parts (BrokenField f) = record { number = 2; layer = layer.Head; letter = untold; row = 0; field = f; «record» = 0 }
-head-parts WrongSize = record { number = 3; layer = layer.Head; letter = untold; row = 0; field = 2; «record» = 0 }

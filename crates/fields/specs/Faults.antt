@@ -31,10 +31,6 @@ line p =
     ++ (codes " row " ++ (decimal (p .row) ++ (codes " field " ++ (decimal (p .field)
     ++ (codes " record " ++ decimal (p .«record»))))))))))
 
--- a fault's whole line: its parts and, in brackets, what to repair
-abbrev pub with-advice : Parts → List ℕ → List ℕ
-with-advice p advice = line p ++ (codes " (" ++ (advice ++ codes ")"))
-
 abbrev pub field-of : FieldFault → ℕ
 field-of (NotOfType f) = f
 field-of (NotAllowed f) = f
@@ -44,8 +40,3 @@ abbrev pub field-parts : FieldFault → Parts
 field-parts (NotOfType f) = record { number = 4; layer = Field; letter = untold; row = 0; field = f; «record» = 0 }
 field-parts (NotAllowed f) = record { number = 5; layer = Field; letter = untold; row = 0; field = f; «record» = 0 }
 field-parts (NotEqual f) = record { number = 6; layer = Field; letter = untold; row = 0; field = f; «record» = 0 }
-
-abbrev pub field-advice : FieldFault → List ℕ
-field-advice (NotOfType f) = codes "the field is not of its type, or it is mandatory and blank"
-field-advice (NotAllowed f) = codes "the field holds a content that is not allowed"
-field-advice (NotEqual f) = codes "the field is not equal to the head's supplier or to the composed file name"

@@ -50,7 +50,8 @@ pub fn number(bytes: &[u8]) -> u64
 {
     let mut sum: u64 = 0;
     for byte in bytes {
-        sum = sum.saturating_mul(10).saturating_add(u64::from(byte.saturating_sub(b'0')));
+        sum = sum.saturating_mul(10)
+            .saturating_add(u64::from(byte.saturating_sub(b'0')));
     }
     sum
 }

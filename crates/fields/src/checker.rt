@@ -101,7 +101,8 @@ impl Content {
             Content::Day => Date::read(bytes).is_some(),
             Content::Capitals => Class::Letter.spans(bytes),
             Content::PlainText => Class::Plain.spans(bytes),
-            Content::Sign(sign) => Class::Only(BLANK).spans(bytes) || Class::Only(sign).spans(bytes),
+            Content::Sign(sign) => Class::Only(BLANK).spans(bytes)
+                || Class::Only(sign).spans(bytes),
             Content::Any | Content::Supplier | Content::FileName => true,
         }
     }

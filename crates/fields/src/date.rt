@@ -45,7 +45,9 @@ fn is_within(low: u32, high: u32, n: u32) -> bool
 fn is_real(year: u32, month: u32, day: u32) -> bool
     ensures { λ r. ⌜ r ≡ on-calendar year month day ⌝ }
 {
-    is_within(2000, 9999, year) && is_within(1, 12, month) && is_within(1, days_of(year, month), day)
+    is_within(2000, 9999, year)
+        && is_within(1, 12, month)
+        && is_within(1, days_of(year, month), day)
 }
 
 impl Date {
@@ -53,7 +55,11 @@ impl Date {
         ensures { λ r. ⌜ mapped (λ d. (d .year, d .month, d .day)) r ≡ day-of year month day ⌝ }
     {
         if is_real(year, month, day) {
-            Some(Date { year: year as u16, month: month as u8, day: day as u8 })
+            Some(Date {
+                year: year as u16,
+                month: month as u8,
+                day: day as u8,
+            })
         } else {
             None
         }
@@ -66,7 +72,11 @@ impl Date {
         if bytes.len() != 8 || !Class::Digit.spans(bytes) {
             return None;
         }
-        Date::new(number_in(bytes, 1, 4), number_in(bytes, 5, 6), number_in(bytes, 7, 8))
+        Date::new(
+            number_in(bytes, 1, 4),
+            number_in(bytes, 5, 6),
+            number_in(bytes, 7, 8),
+        )
     }
 
     pub fn year(&self) -> u16
@@ -80,7 +90,9 @@ pub impl fmt::Display for Date as DateDisplay {
     ghost shown = { λ d. Some (decimal (d .year * 10000 + d .month * 100 + d .day)) };
 
     fn fmt<W: fmt::Write>(&self, f: &mut fmt::Formatter<W>) -> fmt::Result {
-        let digits = u32::from(self.year) * 10000 + u32::from(self.month) * 100 + u32::from(self.day);
+        let digits = u32::from(self.year) * 10000
+            + u32::from(self.month) * 100
+            + u32::from(self.day);
         write!(f, "{digits}")
     }
 }

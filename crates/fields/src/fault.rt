@@ -1,6 +1,5 @@
 // A field that breaks its rule.
-ghost use Rattle.fields.specs.Faults.{field-advice, field-of, field-parts, with-advice};
-ghost use Rattle.std.specs.declared.option.Option.the-variants.{Some};
+ghost use Rattle.fields.specs.Faults.{field-of, field-parts};
 ghost use mathlib.Core.Path.{_≡_};
 use crate::parts::Layer;
 use crate::parts::Parts;
@@ -27,32 +26,39 @@ impl FieldFault {
             FieldFault::NotAllowed(field) => (5, field),
             FieldFault::NotEqual(field) => (6, field),
         };
-        Parts { number, layer: Layer::Field, letter: '-', row: 0, field, record: 0 }
+        Parts {
+            number,
+            layer: Layer::Field,
+            letter: '-',
+            row: 0,
+            field,
+            record: 0,
+        }
     }
 
     pub fn field(&self) -> u8
         ensures { λ r. ⌜ r ≡ field-of (now (self .entry)) ⌝ }
     {
         match *self {
-            FieldFault::NotOfType(field) | FieldFault::NotAllowed(field) | FieldFault::NotEqual(field) => field,
+            FieldFault::NotOfType(field)
+            | FieldFault::NotAllowed(field)
+            | FieldFault::NotEqual(field) => field,
         }
     }
 
     // One sentence on what to repair.
-    pub fn advice(&self) -> &'static str
-        ensures { λ r. ⌜ now r ≡ field-advice (now (self .entry)) ⌝ }
-    {
+    pub fn advice(&self) -> &'static str {
         match self {
-            FieldFault::NotOfType(_) => "the field is not of its type, or it is mandatory and blank",
+            FieldFault::NotOfType(_) =>
+                "the field is not of its type, or it is mandatory and blank",
             FieldFault::NotAllowed(_) => "the field holds a content that is not allowed",
-            FieldFault::NotEqual(_) => "the field is not equal to the head's supplier or to the composed file name",
+            FieldFault::NotEqual(_) =>
+                "the field is not equal to the head's supplier or to the composed file name",
         }
     }
 }
 
 pub impl fmt::Display for FieldFault as FieldFaultDisplay {
-    ghost shown = { λ e. Some (with-advice (field-parts e) (field-advice e)) };
-
     fn fmt<W: fmt::Write>(&self, f: &mut fmt::Formatter<W>) -> fmt::Result {
         let parts = self.parts();
         let advice = self.advice();

@@ -1,9 +1,9 @@
-pub mod class;
 pub mod bytes;
-pub mod flags;
-pub mod date;
-pub mod text;
-pub mod parts;
-pub mod fault;
-pub mod rule;
 pub mod checker;
+pub mod class;
+pub mod date;
+pub mod fault;
+pub mod flags;
+pub mod parts;
+pub mod rule;
+pub mod text;

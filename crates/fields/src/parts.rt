@@ -49,8 +49,18 @@ pub impl fmt::Display for Parts as PartsDisplay {
     ghost shown = { λ p. Some (line p) };
 
     fn fmt<W: fmt::Write>(&self, f: &mut fmt::Formatter<W>) -> fmt::Result {
-        let Parts { number, layer, letter, row, field, record } = *self;
+        let Parts {
+            number,
+            layer,
+            letter,
+            row,
+            field,
+            record,
+        } = *self;
         let layer = layer.name();
-        write!(f, "{number} {layer} {letter} row {row} field {field} record {record}")
+        write!(
+            f,
+            "{number} {layer} {letter} row {row} field {field} record {record}"
+        )
     }
 }

@@ -28,5 +28,5 @@ returns c =
     record {
       capped = omega (arith, all);
       short = λ few. let few′ : i ≤ 8 = omega arith in
-        let tens : 10 ^ i ≤ 10 ^ 8 = pow-le-pow-right (lit< tt) few′ in omega (arith, all, tens)
+          let tens : 10 ^ i ≤ 10 ^ 8 = pow-le-pow-right (lit< tt) few′ in omega (arith, all, tens);
     }

@@ -12,7 +12,7 @@ returns c =
     record {
       capped = omega (arith, same);
       short = λ narrow.
-        let few : length (c .part .result .now) ≤ 8 =
+          let few : length (c .part .result .now) ≤ 8 =
           omega (arith, ap length (c .part .ensures), columns-short (c .args .first) (c .args .last) (c .args .row .now)) in
-        omega (arith, same, c .number .ensures .short few)
+          omega (arith, same, c .number .ensures .short few);
     }

@@ -9,8 +9,8 @@ pub returns-then-bytes-ne8 : need.returns-then-bytes-ne8
 unfolding date
 returns-then-bytes-ne8 c =
     elim (c .then-bytes-ne8 .came) [
-      then-bytes-ne8·by·then-bytes-ne8 w ↦ grind (arith, tells)
-    | then-bytes-ne8·by·else-bytes-ne8·then-not-spans w ↦ grind (arith, tells)
+      | then-bytes-ne8·by·then-bytes-ne8 w ↦ grind (arith, tells)
+      | then-bytes-ne8·by·else-bytes-ne8·then-not-spans w ↦ grind (arith, tells)
     ]
 
 pub returns : need.returns

@@ -1,0 +1,35 @@
+use mathlib.Core.Path.{_≡_, sym}
+use lib.Dec.{lit≤}
+use Rattle.std.specs.declared.result.Result.the-variants.{Ok}
+use Rattle.std.proofs.shelf.Results.{err-from-errBy}
+use Rattle.fields.specs.Rules.{checked}
+use Rattle.deliveries.specs.Head.{head-table, no-context}
+use Rattle.deliveries.proofs.Heads.{no-day, when-broken, when-short}
+use Rattle.deliveries.proofs.head.read_fields.Needs as need
+
+pub returns-then-bytes-lt-HEAD-LENGTH : need.returns-then-bytes-lt-HEAD-LENGTH
+returns-then-bytes-lt-HEAD-LENGTH c = when-short (c .args .bytes .now) (c .if-bytes-lt-HEAD-LENGTH .taken)
+
+pub returns-in-Break-check : need.returns-in-Break-check
+returns-in-Break-check c =
+    let p = err-from-errBy (c .from-residual .result) (c .from-residual .ensures .1) in
+    rw (p .1, p .2) (when-broken (c .args .bytes .now) _ (c .if-bytes-lt-HEAD-LENGTH .left) (c .in-Break-check .ensures tt .first))
+
+pub returns-in-rest : need.returns-in-rest
+returns-in-rest c =
+    absurd (no-day (c .args .bytes .now) (c .part .result .now) (c .in-Continue-check .ensures tt .first) (c .part .ensures) (c .in-rest .ensures tt))
+
+pub returns : need.returns
+returns c =
+    record {
+      long = c .if-bytes-lt-HEAD-LENGTH .left;
+      kept = c .in-Continue-check .ensures tt .first;
+      bears = record {
+        stations = c .extent-in .ensures (lit≤ tt) (lit≤ tt);
+        series = c .extent-in-2 .ensures (lit≤ tt) (lit≤ tt);
+        tables = c .extent-in-3 .ensures (lit≤ tt) (lit≤ tt);
+        supplier = c .number-in .ensures .short (lit≤ tt);
+        first-day = rw (← c .part .ensures) (c .in-Some .ensures tt);
+        version = c .number-in-2 .ensures .short (lit≤ tt);
+      };
+    }
