@@ -1,6 +1,6 @@
 -- The first fault of a head step by step, and what its kept rules say of counts and lengths.
 use mathlib.Core.Path.{_≡_, refl, sym, ap, _∙_}
-use mathlib.Core.Bool.{Bool, true, cond, _&&_}
+use mathlib.Core.Bool.{Bool, true, false, cond, _&&_}
 use mathlib.Core.List.{List}
 use Prim.Native.Nat.{ℕ, _≤_, _<_, _+_, _*_}
 use lib.Dec.{eqb, ltb}
@@ -8,20 +8,23 @@ use lib.ListN.{length}
 use native.Mathlib.Omega.{arith}
 use native.Mathlib.Nat.{mul-le-mul}
 use Rattle.std.specs.Options.{isSome}
+use Rattle.std.specs.Orderings.{Decides}
 use Rattle.std.specs.Results.{isOk}
 use Rattle.std.specs.declared.option.Option.the-variants.{Some, None}
+use Rattle.std.specs.declared.result.Result.{Result}
 use Rattle.std.specs.declared.result.Result.the-variants.{Ok, Err}
-use Rattle.std.proofs.shelf.Tests.{false≢true, le-ltb, lt-ltb}
+use Rattle.std.proofs.shelf.Tests.{and-from, and-parts, eq-eqb, eqb-true, false≢true, le-ltb, lt-ltb, ltb-false}
 use Rattle.fields.specs.declared.fault.FieldFault.{FieldFault}
 use Rattle.fields.specs.Bytes.{columns, value}
 use Rattle.fields.specs.Calendar.{date}
 use Rattle.fields.specs.Faults.{field-of}
 use Rattle.fields.specs.Rules.{Sound, checked}
 use Rattle.fields.proofs.FirstFault.{checked-sound, kept-between, kept-tests}
+use Rattle.deliveries.specs.declared.fault.HeadFault.{HeadFault}
 use Rattle.deliveries.specs.declared.fault.HeadFault.the-variants.{Short, BrokenField, WrongSize}
 use Rattle.deliveries.specs.declared.head.Extent.{Extent}
 use Rattle.deliveries.specs.declared.head.Head.{Head}
-use Rattle.deliveries.specs.Head.{Whole, after-fields, all-rows, bytes-in, head-fault, head-table, no-context, right-size}
+use Rattle.deliveries.specs.Head.{Kept, Whole, after-fields, all-rows, bytes-in, head-fault, head-table, no-context, right-size}
 
 pub when-short : (bs : List ℕ) → length bs < 47 → head-fault bs ≡ Some Short
 unfolding head-fault
@@ -84,3 +87,42 @@ by-size bs h w a b c ea eb ec r e =
     let sum : a + b + c ≡ all-rows bs = rw (ea, eb, ec, w .bears .stations, w .bears .series, w .bears .tables) in
     let sized : r ≡ right-size bs = e ∙ rw sum in
     when-kept bs (w .long) (w .kept) ∙ ap (λ t. cond t None (Some WrongSize)) (sym sized)
+
+some-none : {A : Type 0} (x : A) → Some x ≡ None → ⊥
+some-none x e = let z : _≡_ {A = ℕ} 0 1 = cc in omega arith
+
+-- a head has no fault exactly where it keeps its rules
+kept-when-none : (bs : List ℕ) → head-fault bs ≡ None → Kept bs
+unfolding head-fault
+kept-when-none bs none = go (ltb (length bs) 47) refl (checked no-context bs head-table) refl none
+  where
+    sized : (s : Bool) → right-size bs ≡ s → cond s None (Some WrongSize) ≡ None → right-size bs ≡ true
+    sized true e n = e
+    sized false e n = absurd (some-none WrongSize n)
+    go : (b : Bool) → ltb (length bs) 47 ≡ b → (r : Result (Unit {0}) FieldFault) → checked no-context bs head-table ≡ r → cond b (Some Short) (after-fields bs r) ≡ None → Kept bs
+    go true e r f n = absurd (some-none Short n)
+    go false e (Err x) f n = absurd (some-none _ n)
+    go false e (Ok u) f n =
+        let both = and-parts (eqb (value (columns 2 9 bs)) (all-rows bs)) (eqb (length bs) (47 + all-rows bs)) (sized (right-size bs) refl n) in
+        record {
+          long = ltb-false (length bs) 47 e;
+          fields = checked-sound no-context bs head-table .0 (ap isOk f);
+          told-size = eqb-true _ _ (both .0);
+          true-size = eqb-true _ _ (both .1)
+        }
+
+none-when-kept : (bs : List ℕ) → Kept bs → head-fault bs ≡ None
+none-when-kept bs k =
+    when-long bs (k .long) ∙ go (checked no-context bs head-table) (checked-sound no-context bs head-table .1 (k .fields))
+  where
+    sized : right-size bs ≡ true
+    sized = and-from _ _ (eq-eqb _ _ (k .told-size)) (eq-eqb _ _ (k .true-size))
+    go : (r : Result (Unit {0}) FieldFault) → isOk r ≡ true → after-fields bs r ≡ None
+    go (Ok u) e = ap (λ t. cond t None (Some WrongSize)) sized
+    go (Err x) e = absurd (false≢true e)
+
+pub taken : (bs : List ℕ) → head-fault bs ≡ None → Decides true (Kept bs)
+taken bs none = (λ _. kept-when-none bs none, λ _. refl)
+
+pub refused : (bs : List ℕ) (e : HeadFault) → head-fault bs ≡ Some e → Decides false (Kept bs)
+refused bs e fault = (λ x. absurd (false≢true x), λ k. absurd (some-none e (sym fault ∙ none-when-kept bs k)))

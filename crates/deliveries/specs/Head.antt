@@ -19,7 +19,7 @@ use Rattle.fields.specs.declared.rule.Need.the-variants.{Mandatory}
 use Rattle.fields.specs.Bytes.{columns, value}
 use Rattle.fields.specs.Calendar.{date}
 use Rattle.fields.specs.Faults.{field-of}
-use Rattle.fields.specs.Rules.{checked, field}
+use Rattle.fields.specs.Rules.{Sound, checked, field}
 use Rattle.deliveries.specs.declared.fault.HeadFault.{HeadFault}
 use Rattle.deliveries.specs.declared.fault.HeadFault.the-variants.{Short, BrokenField, WrongSize}
 use Rattle.deliveries.specs.declared.head.Extent.{Extent}
@@ -82,3 +82,10 @@ after-fields bs (Ok _) = cond (right-size bs) None (Some WrongSize)
 -- the first fault of a head, none where it keeps its rules
 unfoldable pub head-fault : List ℕ → Option HeadFault
 head-fault bs = cond (ltb (length bs) 47) (Some Short) (after-fields bs (checked no-context bs head-table))
+
+-- the rules of a head, without their order
+pub record Kept (bs : List ℕ) : Type 0 where
+  pub long : 47 ≤ length bs
+  pub fields : Sound no-context bs head-table
+  pub told-size : value (columns 2 9 bs) ≡ all-rows bs
+  pub true-size : length bs ≡ 47 + all-rows bs

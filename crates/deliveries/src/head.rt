@@ -1,10 +1,11 @@
 // The head of a delivery: the first 47 bytes of its buffer.
 ghost use Prim.Native.Nat.{_+_, _*_, _^_, _<_, _≤_};
-ghost use Rattle.deliveries.specs.Head.{Bears, Whole, bytes-in, extent, head-fault};
+ghost use Rattle.deliveries.specs.Head.{Bears, Kept, Whole, bytes-in, extent, head-fault};
 ghost use Rattle.deliveries.specs.declared.fault.HeadFault.the-variants.{BrokenField};
 ghost use Rattle.fields.specs.Bytes.{columns, value};
 ghost use Rattle.fields.specs.Faults.{field-of};
-ghost use Rattle.std.specs.Results.{Cases};
+ghost use Rattle.std.specs.Orderings.{Decides};
+ghost use Rattle.std.specs.Results.{Cases, isOk};
 ghost use Rattle.std.specs.declared.option.Option.the-variants.{None, Some};
 ghost use lib.Dec.{eqb};
 ghost use lib.ListN.{length};
@@ -121,7 +122,8 @@ fn has_size(bytes: &[u8], size: u64) -> bool
 
 // The head at the front of a buffer that holds a whole delivery, or the first fault.
 pub fn read_head(bytes: &[u8]) -> Result<Head, HeadFault>
-    ensures { λ r. ⌜ Cases r (λ h. (head-fault (now (bytes .entry)) ≡ None) × Bears (now (bytes .entry)) h) (λ e. head-fault (now (bytes .entry)) ≡ Some e) ⌝ }
+    ensures kept { λ r. ⌜ Decides (isOk r) (Kept (now (bytes .entry))) ⌝ }
+    ensures first { λ r. ⌜ Cases r (λ h. (head-fault (now (bytes .entry)) ≡ None) × Bears (now (bytes .entry)) h) (λ e. head-fault (now (bytes .entry)) ≡ Some e) ⌝ }
 {
     let head = read_fields(bytes)?;
     let size = head.stations.size() + head.series.size() + head.tables.size();
