@@ -99,6 +99,7 @@ kept-when-none bs none = go (ltb (length bs) 47) refl (checked no-context bs hea
     sized : (s : Bool) → right-size bs ≡ s → cond s None (Some WrongSize) ≡ None → right-size bs ≡ true
     sized true e n = e
     sized false e n = absurd (some-none WrongSize n)
+
     go : (b : Bool) → ltb (length bs) 47 ≡ b → (r : Result (Unit {0}) FieldFault) → checked no-context bs head-table ≡ r → cond b (Some Short) (after-fields bs r) ≡ None → Kept bs
     go true e r f n = absurd (some-none Short n)
     go false e (Err x) f n = absurd (some-none _ n)
@@ -108,7 +109,7 @@ kept-when-none bs none = go (ltb (length bs) 47) refl (checked no-context bs hea
           long = ltb-false (length bs) 47 e;
           fields = checked-sound no-context bs head-table .0 (ap isOk f);
           told-size = eqb-true _ _ (both .0);
-          true-size = eqb-true _ _ (both .1)
+          true-size = eqb-true _ _ (both .1);
         }
 
 none-when-kept : (bs : List ℕ) → Kept bs → head-fault bs ≡ None
@@ -117,6 +118,7 @@ none-when-kept bs k =
   where
     sized : right-size bs ≡ true
     sized = and-from _ _ (eq-eqb _ _ (k .told-size)) (eq-eqb _ _ (k .true-size))
+
     go : (r : Result (Unit {0}) FieldFault) → isOk r ≡ true → after-fields bs r ≡ None
     go (Ok u) e = ap (λ t. cond t None (Some WrongSize)) sized
     go (Err x) e = absurd (false≢true e)

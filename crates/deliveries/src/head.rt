@@ -16,6 +16,7 @@ use fields::bytes::number_in;
 use fields::bytes::part;
 use fields::checker::check;
 use fields::date::Date;
+use fields::date::DateDisplay;
 use fields::fault::FieldFault;
 use fields::flags::KeyFlag;
 use fields::rule::Content;
@@ -23,6 +24,7 @@ use fields::rule::Context;
 use fields::rule::Field;
 use fields::rule::FieldType::Numeric;
 use fields::rule::Need::Mandatory;
+use std::fmt;
 
 // The rows of one file: how many, and how long each is.
 #[derive(Clone, Copy)]
@@ -131,4 +133,26 @@ pub fn read_head(bytes: &[u8]) -> Result<Head, HeadFault>
         return Err(HeadFault::WrongSize);
     }
     Ok(head)
+}
+
+pub impl fmt::Display for Head as HeadDisplay {
+    fn fmt<W: fmt::Write>(&self, f: &mut fmt::Formatter<W>) -> fmt::Result {
+        let Head {
+            stations,
+            series,
+            tables,
+            supplier,
+            first_day,
+            version,
+        } = *self;
+        write!(
+            f,
+            "supplier {supplier:04} day {first_day} version {version:02}"
+        )?;
+        write!(
+            f,
+            " stations {} series {} tables {}",
+            stations.rows, series.rows, tables.rows
+        )
+    }
 }

@@ -4,5 +4,4 @@ ghost use Rattle.examples.specs.Worked.{Examples};
 // Does nothing; its contract is the statement of all worked examples.
 pub fn examples_hold()
     ensures { λ _. ⌜ Examples ⌝ }
-{
-}
+{}

@@ -20,5 +20,5 @@ returns c =
       table-0999 = refl;
       table-1000 = refl;
       flag-3-in-new = refl;
-      flag-3 = refl
+      flag-3 = refl;
     }

@@ -22,13 +22,13 @@ has-size-requires c κs = let s = small (c .args .bytes .now) (c .in-Continue-he
 pub returns-then-not-has-size : need.returns-then-not-has-size
 returns-then-not-has-size c =
     let fault =
-      by-size (c .args .bytes .now) (c .in-Continue-head .head) (c .in-Continue-head .ensures tt)
-      _ _ _ (c .size .ensures) (c .size-2 .ensures) (c .size-3 .ensures) false (c .if-not-has-size .ensures tt) in
+    by-size (c .args .bytes .now) (c .in-Continue-head .head) (c .in-Continue-head .ensures tt)
+    _ _ _ (c .size .ensures) (c .size-2 .ensures) (c .size-3 .ensures) false (c .if-not-has-size .ensures tt) in
     record { kept = refused (c .args .bytes .now) _ fault; first = fault }
 
 pub returns : need.returns
 returns c =
     let none =
-      by-size (c .args .bytes .now) (c .in-Continue-head .head) (c .in-Continue-head .ensures tt)
-      _ _ _ (c .size .ensures) (c .size-2 .ensures) (c .size-3 .ensures) true (c .if-not-has-size .ensures tt) in
+    by-size (c .args .bytes .now) (c .in-Continue-head .head) (c .in-Continue-head .ensures tt)
+    _ _ _ (c .size .ensures) (c .size-2 .ensures) (c .size-3 .ensures) true (c .if-not-has-size .ensures tt) in
     record { kept = taken (c .args .bytes .now) none; first = (none, c .in-Continue-head .ensures tt .bears) }
