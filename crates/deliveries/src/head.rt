@@ -1,6 +1,6 @@
 // The head of a delivery: the first 47 bytes of its buffer.
 ghost use Prim.Native.Nat.{_+_, _*_, _^_, _<_, _≤_};
-ghost use Rattle.deliveries.specs.Head.{Bears, Kept, Whole, bytes-in, extent, head-fault};
+ghost use Rattle.deliveries.specs.Head.{Bears, Kept, Whole, bytes-in, extent, head-fault, head-table};
 ghost use Rattle.deliveries.specs.declared.fault.HeadFault.the-variants.{BrokenField};
 ghost use Rattle.fields.specs.Bytes.{columns, value};
 ghost use Rattle.fields.specs.Faults.{field-of};
@@ -60,6 +60,12 @@ static HEAD: [Field; 11] = [
     Field { number: 11, first: 46, last: 47, holds: Numeric, need: Mandatory, content: Content::Between(1, 99) },
 ];
 
+fn layout() -> &'static [Field]
+    ensures { λ r. ⌜ now r ≡ head-table ⌝ }
+{
+    &HEAD
+}
+
 // No rule of the head refers to the context.
 static NO_CONTEXT: Context = Context {
     supplier: 0,
@@ -100,7 +106,7 @@ fn read_fields(bytes: &[u8]) -> Result<Head, HeadFault>
     if bytes.len() < HEAD_LENGTH {
         return Err(HeadFault::Short);
     }
-    check(&HEAD, &NO_CONTEXT, bytes)?;
+    check(layout(), &NO_CONTEXT, bytes)?;
     let Some(first_day) = Date::read(part(bytes, 38, 45)) else {
         return Err(HeadFault::BrokenField(10));
     };
