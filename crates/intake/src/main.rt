@@ -41,6 +41,13 @@ fn check(rt: &LibcRuntime, path: &str) -> io::Result<Status> {
 }
 
 fn check_all(rt: &LibcRuntime, paths: env::Args<std::alloc::Global>) -> io::Result<Status> {
+    if paths.len() == 0 {
+        eprintln!(
+            rt,
+            "intake: check needs at least one file; see intake --help"
+        )?;
+        return Ok(Status::Failed);
+    }
     let mut status = Status::Done;
     for path in paths {
         status = status.and(check(rt, path.as_str())?);
