@@ -1,0 +1,3 @@
+pub mod cover;
+pub mod order;
+pub mod kind;
