@@ -1,1 +1,4 @@
+pub mod Compared
+pub mod Stations
+pub mod Told
 pub mod Walks

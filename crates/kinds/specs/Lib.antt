@@ -1,2 +1,6 @@
 pub mod Cover
 pub mod Meaning
+pub mod Orders
+pub mod Station
+pub mod Taking
+pub mod Values

@@ -1,3 +1,5 @@
 pub mod cover;
 pub mod order;
 pub mod kind;
+mod values;
+pub mod station;
