@@ -1,6 +1,7 @@
 pub mod Cover
 pub mod Meaning
 pub mod Orders
+pub mod Series
 pub mod Station
 pub mod Taking
 pub mod Values

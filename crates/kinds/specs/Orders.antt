@@ -3,7 +3,7 @@ use mathlib.Core.Path.{_≡_, refl, ap}
 use mathlib.Core.Bool.{Bool, true, false, cond}
 use Prim.Native.Nat.{ℕ, _<_}
 use lib.Dec.{eqb, ltb}
-use Rattle.std.specs.Derived.{fields, on}
+use Rattle.std.specs.Derived.{on}
 use Rattle.std.specs.Keys.{Total, unsigned}
 use Rattle.std.specs.Lexical.{Lex, lexical}
 use Rattle.std.specs.Orderings.{Ranked, isGt, isLt}
@@ -16,8 +16,14 @@ use Rattle.kinds.specs.Meaning.{Order}
 abbrev pub order-of : {K : Type 0} {R : K → K → Ordering → Type 0} → Total R → Order K
 order-of o = record { cmp = o .cmp; flip = o .flip; trans = o .trans; alike = o .alike }
 
+abbrev pub ranks : ℕ → ℕ → Ordering → Type 0
+ranks a b r = Ranked r (a < b) (a ≡ b) (b < a)
+
 -- byte by byte
-abbrev pub by-text : (n : ℕ) → Total (λ (x y : Text n). Lex (λ (a b : ℕ) (r : Ordering). Ranked r (a < b) (a ≡ b) (b < a)) (x .bytes) (y .bytes))
+abbrev pub ranks-text : {n : ℕ} → Text n → Text n → Ordering → Type 0
+ranks-text x y r = Lex ranks (x .bytes) (y .bytes) r
+
+abbrev pub by-text : (n : ℕ) → Total (ranks-text {n = n})
 by-text n = on (λ t. t .bytes) (lexical unsigned)
 
 -- numbers that compare as equal are

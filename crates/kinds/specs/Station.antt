@@ -1,11 +1,10 @@
 -- Stations: their columns, their cover, and what they mean.
-use mathlib.Core.Path.{_≡_}
-use mathlib.Core.Bool.{Bool}
+use mathlib.Core.Path.{_≡_, refl}
+use mathlib.Core.Bool.{Bool, false}
 use mathlib.Core.List.{List, [], _∷_}
 use Prim.Native.Nat.{ℕ}
 use Rattle.std.specs.Keys.{unsigned}
 use Rattle.fields.specs.declared.rule.Content.the-variants.{Any, Between, Amendment, PlainText, Supplier}
-use Rattle.fields.specs.declared.rule.Context.{Context}
 use Rattle.fields.specs.declared.rule.Field.{Field}
 use Rattle.fields.specs.declared.rule.FieldType.the-variants.{Alphanumeric, Numeric}
 use Rattle.fields.specs.declared.rule.Need.the-variants.{Mandatory, Optional}
@@ -18,11 +17,11 @@ use Rattle.kinds.specs.declared.cover.Line.{Line}
 use Rattle.kinds.specs.declared.station.Station.{Station}
 use Rattle.kinds.specs.declared.station.StationFlags.{StationFlags}
 use Rattle.kinds.specs.declared.station.StationTold.{StationTold}
-use Rattle.kinds.specs.Cover.{True-flags, line}
+use Rattle.kinds.specs.Cover.{True-flags, differs-under, line}
 use Rattle.kinds.specs.Meaning.{Meaning}
 use Rattle.kinds.specs.Orders.{apart-numbers, by-text, order-of}
-use Rattle.kinds.specs.Taking.{reaches-first, takes-number, takes-text}
-use Rattle.kinds.specs.Values.{flag-in, number-in, numbers-differ, read-as, taken, text-in, texts-differ}
+use Rattle.kinds.specs.Taking.{Spared, spares, takes-number, takes-text}
+use Rattle.kinds.specs.Values.{flag-in, number-in, numbers-differ, read-as, row-context, taken, text-in, texts-differ}
 
 abbrev pub station-table : List Field
 station-table =
@@ -79,9 +78,6 @@ station-in s row =
       amended = flag-columns row
     }
 
-abbrev pub station-context : ℕ → List ℕ → Context
-station-context s row = record { supplier = s; number = number-in 5 9 row; «key_flag» = key-flag (columns 10 10 row) }
-
 abbrev pub station-marks : StationTold → Station → List Bool
 station-marks t r =
     texts-differ (t .name) (r .told .name)
@@ -107,18 +103,21 @@ station-takes t r =
 pub station-takes-all : (t : StationTold) (r : Station) → True-flags station-lines (station-marks t r) → station-takes t r ≡ r .told
 station-takes-all t r h =
     λ i. record {
-      name = takes-text (r .amended .name) (r .told .name) (t .name) (reaches-first _ _ _ (h .1 .0)) i;
-      designation = takes-text (r .amended .designation) (r .told .designation) (t .designation) (reaches-first _ _ _ (h .1 .1 .1 .0)) i;
+      name = takes-text (r .amended .name) (r .told .name) (t .name) (λ z. by 6 _ (h .1 .0) z .0 refl) i;
+      designation = takes-text (r .amended .designation) (r .told .designation) (t .designation) (λ z. by 8 _ (h .1 .1 .1 .0) z .1 .1 .0 refl) i;
       «route_description» =
         takes-text (r .amended .«route_description») (r .told .«route_description») (t .«route_description»)
-        (reaches-first _ _ _ (h .1 .1 .1 .1 .1 .0)) i;
-      zone = takes-number (r .amended .zone) (r .told .zone) (t .zone) (reaches-first _ _ _ (h .1 .1 .1 .1 .1 .1 .1 .0)) i
+        (λ z. by 10 _ (h .1 .1 .1 .1 .1 .0) z .1 .1 .1 .1 .0 refl) i;
+      zone = takes-number (r .amended .zone) (r .told .zone) (t .zone) (λ z. by 12 _ (h .1 .1 .1 .1 .1 .1 .1 .0) z .1 .1 .1 .1 .1 .1 .0 refl) i
     }
+  where
+    by : (f : ℕ) (flag : Bool) → flag ≡ differs-under f station-lines (station-marks t r) → flag ≡ false → Spared f station-lines (station-marks t r)
+    by f flag = spares flag f station-lines (station-marks t r)
 
 abbrev pub station-meaning : Meaning Station StationTold ℕ (Text 17)
 station-meaning =
     record {
-      reads = λ s row. read-as (station-in s row) (checked (station-context s row) row station-table);
+      reads = λ s row. read-as (station-in s row) (checked (row-context s row) row station-table);
       supplier = λ r. r .supplier;
       number = λ r. r .number;
       numbers = order-of unsigned;

@@ -7,9 +7,12 @@ use Rattle.std.specs.shelf.Text.{sameBytes}
 use Rattle.std.specs.declared.result.Result.{Result}
 use Rattle.std.specs.declared.result.Result.the-variants.{Ok, Err}
 use Rattle.fields.specs.declared.fault.FieldFault.{FieldFault}
+use Rattle.fields.specs.declared.rule.Context.{Context}
 use Rattle.fields.specs.declared.text.Text.{Text}
-use Rattle.fields.specs.Bytes.{columns, text, value}
-use Rattle.fields.specs.Flags.{amended}
+use Rattle.fields.specs.declared.class.Class.the-variants.{Only}
+use Rattle.fields.specs.Bytes.{columns, every, text, value}
+use Rattle.fields.specs.Flags.{amended, key-flag}
+use Rattle.kinds.specs.Cover.{xor}
 
 abbrev pub text-in : (n : ℕ) → ℕ → ℕ → List ℕ → Text n
 text-in n first last row = record { bytes = text n (columns first last row) }
@@ -26,6 +29,13 @@ texts-differ a b = not (sameBytes (a .bytes) (b .bytes))
 abbrev pub numbers-differ : ℕ → ℕ → Bool
 numbers-differ a b = not (eqb a b)
 
+abbrev pub signs-differ : Bool → Bool → Bool
+signs-differ a b = xor a b
+
+-- whether a column holds the sign
+abbrev pub sign-in : ℕ → ℕ → List ℕ → Bool
+sign-in sign column row = every (Only sign) (columns column column row)
+
 -- the newer value where its flag counts 3, else the older one
 abbrev pub taken : {A : Type 0} → Bool → A → A → A
 taken flag newer older = cond flag newer older
@@ -34,3 +44,7 @@ taken flag newer older = cond flag newer older
 abbrev pub read-as : {R : Type 0} → R → Result (Unit {0}) FieldFault → Result R FieldFault
 read-as r (Ok _) = Ok r
 read-as r (Err e) = Err e
+
+-- what the rules of a station's or a series' row refer to
+abbrev pub row-context : ℕ → List ℕ → Context
+row-context s row = record { supplier = s; number = number-in 5 9 row; «key_flag» = key-flag (columns 10 10 row) }

@@ -3,3 +3,4 @@ pub mod order;
 pub mod kind;
 mod values;
 pub mod station;
+pub mod series;

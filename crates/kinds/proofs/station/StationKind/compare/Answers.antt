@@ -1,5 +1,5 @@
 use Rattle.kinds.proofs.Compared.{told-value, when-amended, when-deleted}
-use Rattle.kinds.proofs.Stations.{same-station, station-same}
+use Rattle.kinds.proofs.StationRows.{same-station, station-same}
 use Rattle.kinds.proofs.station.StationKind.compare.Needs as need
 
 pub returns : need.returns
