@@ -15,6 +15,7 @@ use Rattle.fields.specs.declared.flags.KeyFlag.the-variants.{NoAmendment, Delet
 use Rattle.kinds.specs.declared.cover.Cover.{Cover}
 use Rattle.kinds.specs.declared.cover.Cover.the-variants.{By, Steady, Flag}
 use Rattle.kinds.specs.declared.cover.Line.{Line}
+use Rattle.kinds.specs.Meaning.{Meaning, compares}
 use Rattle.kinds.specs.Cover.{Each-mark, Tells, True-flags, Unchanged, compared, differs-under, first-line, is-changed, is-untrue, line, xor}
 
 -- a test that is false exactly where P holds, of each line and its mark
@@ -56,15 +57,26 @@ changed-line n Flag m = (λ _. tt, λ _. refl)
 pub unchanged : (ls : List Line) (ms : List Bool) → Decides (not (isSome (compared Deletion ls ms))) (Unchanged ls ms)
 unchanged ls ms = first-decides is-changed _ (λ l m. changed-line (l .number) (l .cover) m) ls ms
 
--- what a kind's comparison owes, once its answer is the comparison of its table and marks
-module _ (k : KeyFlag) (ls ls′ : List Line) (ms ms′ : List Bool) (r : Option ℕ) (by-lines : ls ≡ ls′) (by-marks : ms ≡ ms′) (answer : r ≡ compared k ls ms) where
-  pub told-value : r ≡ compared k ls′ ms′
-  told-value = answer ∙ (λ i. compared k (by-lines i) (by-marks i))
-
-  pub when-amended : k ≡ NoAmendment → Decides (not (isSome r)) (True-flags ls′ ms′)
-  when-amended z = decides-at _ _ (ap (λ o. not (isSome o)) (told-value ∙ ap (λ k. compared k ls′ ms′) z)) (true-flags ls′ ms′)
-
-  pub when-deleted : {T : Type 0} (t u : T) → (Unchanged ls′ ms′ → t ≡ u) → (t ≡ u → Unchanged ls′ ms′) → k ≡ Deletion → Decides (not (isSome r)) (t ≡ u)
-  when-deleted t u there back z =
-      let same = decides-at _ _ (ap (λ o. not (isSome o)) (told-value ∙ ap (λ k. compared k ls′ ms′) z)) (unchanged ls′ ms′) in
-      (λ e. there (same .0 e), λ e. same .1 (back e))
+-- what a kind's comparison owes, once its answer is the comparison of its table and marks, and the marks tell whether
+-- all told fields are equal
+pub comparison : {R T N K : Type 0} (m : Meaning R T N K) (t : T) (r : R) (ls : List Line) (ms : List Bool) (answer : Option ℕ) →
+  ls ≡ m .lines → ms ≡ m .marks t r → answer ≡ compared (m .key-flag r) ls ms →
+  (Unchanged (m .lines) (m .marks t r) → t ≡ m .told r) → (t ≡ m .told r → Unchanged (m .lines) (m .marks t r)) →
+  record {
+    value : answer ≡ compares m t r;
+    amended : m .key-flag r ≡ NoAmendment → Decides (not (isSome answer)) (True-flags (m .lines) (m .marks t r));
+    deleted : m .key-flag r ≡ Deletion → Decides (not (isSome answer)) (t ≡ m .told r)
+  }
+comparison m t r ls ms answer by-lines by-marks e there back =
+    record {
+      value = value;
+      amended = λ z. decides-at _ _ (ap (λ o. not (isSome o)) (at NoAmendment z)) (true-flags (m .lines) (m .marks t r));
+      deleted = λ z.
+        let same = decides-at _ _ (ap (λ o. not (isSome o)) (at Deletion z)) (unchanged (m .lines) (m .marks t r)) in
+        (λ e. there (same .0 e), λ e. same .1 (back e))
+    }
+  where
+    value : answer ≡ compares m t r
+    value = e ∙ (λ i. compared (m .key-flag r) (by-lines i) (by-marks i))
+    at : (k : KeyFlag) → m .key-flag r ≡ k → answer ≡ compared k (m .lines) (m .marks t r)
+    at k z = value ∙ ap (λ k. compared k (m .lines) (m .marks t r)) z

@@ -1,4 +1,5 @@
 pub mod Compared
+pub mod FareTableRows
 pub mod SeriesRows
 pub mod StationRows
 pub mod Told

@@ -5,7 +5,8 @@ use Rattle.kinds.specs.declared.series.Series.{Series}
 use Rattle.kinds.specs.declared.series.SeriesTold.{SeriesTold}
 use Rattle.kinds.specs.Cover.{Unchanged}
 use Rattle.kinds.specs.Series.{same-type, series-lines, series-marks, type-number}
-use Rattle.kinds.proofs.Told.{number-same, same-number, same-sign, same-text, sign-same, text-same}
+use Rattle.kinds.specs.Taking.{same-number, same-sign, same-text}
+use Rattle.kinds.proofs.Told.{number-same, sign-same, text-same}
 
 pub series-same : (t : SeriesTold) (r : Series) → Unchanged series-lines (series-marks t r) → t ≡ r .told
 series-same t r h =

@@ -4,7 +4,8 @@ use Rattle.kinds.specs.declared.station.Station.{Station}
 use Rattle.kinds.specs.declared.station.StationTold.{StationTold}
 use Rattle.kinds.specs.Cover.{Unchanged}
 use Rattle.kinds.specs.Station.{station-lines, station-marks}
-use Rattle.kinds.proofs.Told.{number-same, same-number, same-text, text-same}
+use Rattle.kinds.specs.Taking.{same-number, same-text}
+use Rattle.kinds.proofs.Told.{number-same, text-same}
 
 pub station-same : (t : StationTold) (r : Station) → Unchanged station-lines (station-marks t r) → t ≡ r .told
 station-same t r h =

@@ -1,33 +1,19 @@
--- No told field differs exactly where all told fields are equal.
+-- Equal values do not differ.
 use mathlib.Core.Path.{_≡_, refl, sym}
 use mathlib.Core.Bool.{Bool, true, false, not}
 use Prim.Native.Nat.{ℕ}
 use lib.Dec.{eqb}
 use Rattle.std.specs.shelf.Text.{sameBytes}
 use Rattle.std.proofs.shelf.Equals.{sameBytes-decides}
-use Rattle.std.proofs.shelf.Tests.{eq-eqb, eqb-true, not-false, not-from-true}
+use Rattle.std.proofs.shelf.Tests.{eq-eqb, not-from-true}
 use Rattle.fields.specs.declared.text.Text.{Text}
 use Rattle.kinds.specs.Values.{numbers-differ, signs-differ, texts-differ}
-
-pub same-text : {n : ℕ} (a b : Text n) → texts-differ a b ≡ false → a ≡ b
-same-text a b e =
-    let same = sameBytes-decides (a .bytes) (b .bytes) .0 (not-false _ e) in
-    λ i. record { bytes = same i }
 
 pub text-same : {n : ℕ} (a b : Text n) → a ≡ b → texts-differ a b ≡ false
 text-same a b e = not-from-true _ (sameBytes-decides (a .bytes) (b .bytes) .1 (λ i. e i .bytes))
 
-pub same-number : (a b : ℕ) → numbers-differ a b ≡ false → a ≡ b
-same-number a b e = eqb-true a b (not-false _ e)
-
 pub number-same : (a b : ℕ) → a ≡ b → numbers-differ a b ≡ false
 number-same a b e = not-from-true _ (eq-eqb a b e)
-
-pub same-sign : (a b : Bool) → signs-differ a b ≡ false → a ≡ b
-same-sign true true e = refl
-same-sign true false e = e
-same-sign false true e = sym e
-same-sign false false e = refl
 
 pub sign-same : (a b : Bool) → a ≡ b → signs-differ a b ≡ false
 sign-same true true e = refl

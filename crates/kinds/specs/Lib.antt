@@ -1,4 +1,5 @@
 pub mod Cover
+pub mod FareTable
 pub mod Meaning
 pub mod Orders
 pub mod Series

@@ -25,7 +25,7 @@ use Rattle.kinds.specs.declared.series.SeriesType.the-variants.{Transit, Borde
 use Rattle.kinds.specs.Cover.{True-flags, differs-under, line}
 use Rattle.kinds.specs.Meaning.{Meaning}
 use Rattle.kinds.specs.Orders.{apart-numbers, by-text, order-of, ranks, ranks-text}
-use Rattle.kinds.specs.Taking.{Reaches, Spared, spares, takes-number, takes-sign, takes-text}
+use Rattle.kinds.specs.Taking.{Reaches, Spared, same-number, spares, takes, takes-number, takes-sign, takes-text}
 use Rattle.kinds.specs.Values.{flag-in, number-in, numbers-differ, read-as, row-context, sign-in, signs-differ, taken, text-in, texts-differ}
 
 -- '+', 'B' and 'S'
@@ -208,8 +208,7 @@ same-type Stations Border e = cc
 same-type Stations Stations e = refl
 
 pub takes-type : (flag : Bool) (newer older : SeriesType) → Reaches flag (types-differ older newer) → taken flag newer older ≡ newer
-takes-type true newer older h = refl
-takes-type false newer older h = same-type older newer (takes-number false (type-number newer) (type-number older) h)
+takes-type = takes types-differ (λ a b e. same-type a b (same-number _ _ e))
 
 -- law 1
 pub series-takes-all : (t : SeriesTold) (r : Series) → True-flags series-lines (series-marks t r) → series-takes t r ≡ r .told

@@ -16,25 +16,34 @@ use Rattle.kinds.specs.Values.{numbers-differ, signs-differ, taken, texts-diff
 abbrev pub Reaches : Bool → Bool → Type 0
 Reaches flag mark = flag ≡ false → mark ≡ false
 
-pub takes-text : {n : ℕ} (flag : Bool) (newer older : Text n) → Reaches flag (texts-differ older newer) → taken flag newer older ≡ newer
-takes-text true newer older h = refl
-takes-text false newer older h =
-    let same = sameBytes-decides (older .bytes) (newer .bytes) .0 (not-false _ (h refl)) in
+pub same-text : {n : ℕ} (a b : Text n) → texts-differ a b ≡ false → a ≡ b
+same-text a b e =
+    let same = sameBytes-decides (a .bytes) (b .bytes) .0 (not-false _ e) in
     λ i. record { bytes = same i }
 
+pub same-number : (a b : ℕ) → numbers-differ a b ≡ false → a ≡ b
+same-number a b e = eqb-true a b (not-false _ e)
+
+pub same-sign : (a b : Bool) → signs-differ a b ≡ false → a ≡ b
+same-sign true true e = refl
+same-sign true false e = e
+same-sign false true e = sym e
+same-sign false false e = refl
+
+-- with same for a kind of value, the newer value is taken where it differs
+pub takes : {A : Type 0} (differ : A → A → Bool) → ((a b : A) → differ a b ≡ false → a ≡ b) →
+  (flag : Bool) (newer older : A) → Reaches flag (differ older newer) → taken flag newer older ≡ newer
+takes differ same true newer older h = refl
+takes differ same false newer older h = same older newer (h refl)
+
+pub takes-text : {n : ℕ} (flag : Bool) (newer older : Text n) → Reaches flag (texts-differ older newer) → taken flag newer older ≡ newer
+takes-text = takes texts-differ same-text
+
 pub takes-number : (flag : Bool) (newer older : ℕ) → Reaches flag (numbers-differ older newer) → taken flag newer older ≡ newer
-takes-number true newer older h = refl
-takes-number false newer older h = eqb-true older newer (not-false _ (h refl))
+takes-number = takes numbers-differ same-number
 
 pub takes-sign : (flag newer older : Bool) → Reaches flag (signs-differ older newer) → taken flag newer older ≡ newer
-takes-sign true newer older h = refl
-takes-sign false newer older h = same older newer (h refl)
-  where
-    same : (a b : Bool) → signs-differ a b ≡ false → a ≡ b
-    same true true e = refl
-    same true false e = e
-    same false true e = sym e
-    same false false e = refl
+takes-sign = takes signs-differ same-sign
 
 -- a true flag that counts 0 covers no field that differs
 abbrev pub Spared : ℕ → List Line → List Bool → Type 0

@@ -4,3 +4,4 @@ pub mod kind;
 mod values;
 pub mod station;
 pub mod series;
+pub mod fare_table;

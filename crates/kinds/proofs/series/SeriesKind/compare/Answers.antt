@@ -1,4 +1,5 @@
-use Rattle.kinds.proofs.Compared.{told-value, when-amended, when-deleted}
+use Rattle.kinds.specs.Series.{series-meaning}
+use Rattle.kinds.proofs.Compared.{comparison}
 use Rattle.kinds.proofs.SeriesRows.{same-series, series-same}
 use Rattle.kinds.proofs.series.SeriesKind.compare.Needs as need
 
@@ -6,8 +7,4 @@ pub returns : need.returns
 returns c =
     let t = c .args .older .now in
     let r = c .args .self .now in
-    record {
-      value = told-value _ _ _ _ _ _ (c .lines .ensures) (c .marks-marks .ensures) (c .first-fault .ensures);
-      amended = when-amended _ _ _ _ _ _ (c .lines .ensures) (c .marks-marks .ensures) (c .first-fault .ensures);
-      deleted = when-deleted _ _ _ _ _ _ (c .lines .ensures) (c .marks-marks .ensures) (c .first-fault .ensures) t (r .told) (series-same t r) (same-series t r)
-    }
+    comparison series-meaning t r _ _ _ (c .lines .ensures) (c .marks-marks .ensures) (c .first-fault .ensures) (series-same t r) (same-series t r)

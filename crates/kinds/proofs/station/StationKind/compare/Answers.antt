@@ -1,4 +1,5 @@
-use Rattle.kinds.proofs.Compared.{told-value, when-amended, when-deleted}
+use Rattle.kinds.specs.Station.{station-meaning}
+use Rattle.kinds.proofs.Compared.{comparison}
 use Rattle.kinds.proofs.StationRows.{same-station, station-same}
 use Rattle.kinds.proofs.station.StationKind.compare.Needs as need
 
@@ -6,8 +7,4 @@ pub returns : need.returns
 returns c =
     let t = c .args .older .now in
     let r = c .args .self .now in
-    record {
-      value = told-value _ _ _ _ _ _ (c .lines .ensures) (c .marks-marks .ensures) (c .first-fault .ensures);
-      amended = when-amended _ _ _ _ _ _ (c .lines .ensures) (c .marks-marks .ensures) (c .first-fault .ensures);
-      deleted = when-deleted _ _ _ _ _ _ (c .lines .ensures) (c .marks-marks .ensures) (c .first-fault .ensures) t (r .told) (station-same t r) (same-station t r)
-    }
+    comparison station-meaning t r _ _ _ (c .lines .ensures) (c .marks-marks .ensures) (c .first-fault .ensures) (station-same t r) (same-station t r)
