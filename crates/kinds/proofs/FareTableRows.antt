@@ -16,18 +16,35 @@ fare-table-same t r h =
       german = same-text (t .german) (r .told .german) (h .1 .1 .1 .0) i;
       english = same-text (t .english) (r .told .english) (h .1 .1 .1 .1 .0) i;
       currency = same-text (t .currency) (r .told .currency) (h .1 .1 .1 .1 .1 .1 .0) i;
-      «return_is_double» = same-sign (t .«return_is_double») (r .told .«return_is_double») (h .1 .1 .1 .1 .1 .1 .1 .1 .0) i
+      «return_is_double» = same-sign (t .«return_is_double») (r .told .«return_is_double») (h .1 .1 .1 .1 .1 .1 .1 .1 .0) i;
     }
 
 pub same-fare-table : (t : FareTableTold) (r : FareTable) → t ≡ r .told → Unchanged fare-table-lines (fare-table-marks t r)
-same-fare-table t r e =
-    ( number-same _ _ (ap (λ x. table-type-number (x .«table_type»)) e)
-    , (text-same _ _ (ap (λ x. x .official) e)
-    , (text-same _ _ (ap (λ x. x .french) e)
-    , (text-same _ _ (ap (λ x. x .german) e)
-    , (text-same _ _ (ap (λ x. x .english) e)
-    , (tt
-    , (text-same _ _ (ap (λ x. x .currency) e)
-    , (tt
-    , (sign-same _ _ (ap (λ x. x .«return_is_double») e)
-    , (tt, tt))))))))) )
+same-fare-table t r e = (
+  number-same _ _ (ap (λ x. table-type-number (x .«table_type»)) e),
+  (
+    text-same _ _ (ap (λ x. x .official) e),
+    (
+      text-same _ _ (ap (λ x. x .french) e),
+      (
+        text-same _ _ (ap (λ x. x .german) e),
+        (
+          text-same _ _ (ap (λ x. x .english) e),
+          (
+            tt,
+            (
+              text-same _ _ (ap (λ x. x .currency) e),
+              (
+                tt,
+                (
+                  sign-same _ _ (ap (λ x. x .«return_is_double») e),
+                  (tt, tt),
+                ),
+              ),
+            ),
+          ),
+        ),
+      ),
+    ),
+  ),
+)

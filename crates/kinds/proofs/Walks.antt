@@ -7,7 +7,7 @@ use Rattle.std.proofs.shelf.Lists.{drop-all, drop-more}
 
 module _ {X Y Z : Type 0} (F : List X → List Y → Z) (xs : List X) (ys : List Y) (i : ℕ) where
   pub both-more : (x : X) (y : Y) → i < length xs → i < length ys →
-    F (drop i xs) (drop i ys) ≡ F (getD xs i x ∷ drop (i + 1) xs) (getD ys i y ∷ drop (i + 1) ys)
+      F (drop i xs) (drop i ys) ≡ F (getD xs i x ∷ drop (i + 1) xs) (getD ys i y ∷ drop (i + 1) ys)
   both-more x y p q = λ k. F (drop-more xs i x p k) (drop-more ys i y q k)
 
   pub second-done : (x : X) → i < length xs → length ys ≤ i → F (drop i xs) (drop i ys) ≡ F (getD xs i x ∷ drop (i + 1) xs) []

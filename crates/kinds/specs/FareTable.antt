@@ -77,7 +77,7 @@ fare-table-told row =
       german = text-in 30 71 100 row;
       english = text-in 30 101 130 row;
       currency = text-in 3 162 164 row;
-      «return_is_double» = eqb (number-in 168 168 row) 1
+      «return_is_double» = eqb (number-in 168 168 row) 1;
     }
 
 abbrev pub fare-table-flags : List ℕ → FareTableFlags
@@ -92,7 +92,7 @@ fare-table-in s row =
       «key_flag» = key-flag (columns 9 9 row);
       told = fare-table-told row;
       amended = fare-table-flags row;
-      replaces = number-in 186 189 row
+      replaces = number-in 186 189 row;
     }
 
 -- what the rules of a fare table's row refer to
@@ -125,7 +125,7 @@ fare-table-takes t r =
       german = taken (r .amended .descriptions) (r .told .german) (t .german);
       english = taken (r .amended .descriptions) (r .told .english) (t .english);
       currency = taken (r .amended .currency) (r .told .currency) (t .currency);
-      «return_is_double» = taken (r .amended .«return_is_double») (r .told .«return_is_double») (t .«return_is_double»)
+      «return_is_double» = taken (r .amended .«return_is_double») (r .told .«return_is_double») (t .«return_is_double»);
     }
 
 pub same-table-type : (a b : TableType) → table-type-number a ≡ table-type-number b → a ≡ b
@@ -153,8 +153,8 @@ fare-table-takes-all t r h =
       english = takes-text (r .amended .descriptions) (r .told .english) (t .english) (λ z. descriptions-flag z .1 .1 .1 .1 .0 refl) i;
       currency = takes-text (r .amended .currency) (r .told .currency) (t .currency) (λ z. currency-flag z .1 .1 .1 .1 .1 .1 .0 refl) i;
       «return_is_double» =
-        takes-sign (r .amended .«return_is_double») (r .told .«return_is_double») (t .«return_is_double»)
-        (λ z. double-flag z .1 .1 .1 .1 .1 .1 .1 .1 .0 refl) i
+          takes-sign (r .amended .«return_is_double») (r .told .«return_is_double») (t .«return_is_double»)
+          (λ z. double-flag z .1 .1 .1 .1 .1 .1 .1 .1 .0 refl) i;
     }
   where
     by : (f : ℕ) (flag : Bool) → flag ≡ differs-under f fare-table-lines (fare-table-marks t r) → flag ≡ false → Spared f fare-table-lines (fare-table-marks t r)
@@ -164,10 +164,12 @@ abbrev pub fare-table-meaning : Meaning FareTable FareTableTold ℕ ℕ
 fare-table-meaning =
     record {
       reads = λ s row. read-as (fare-table-in s row) (checked (fare-table-context s row) row fare-table-table);
+      blank = fare-table-in 0 [];
       supplier = λ r. r .supplier;
       number = λ r. r .number;
       numbers = order-of unsigned;
       apart = apart-numbers;
+      record-number = λ n. n;
       key-flag = λ r. r .«key_flag»;
       told = λ r. r .told;
       order = λ r. r .number;
@@ -175,5 +177,5 @@ fare-table-meaning =
       marks = fare-table-marks;
       takes = fare-table-takes;
       takes-all = fare-table-takes-all;
-      file-order = order-of unsigned
+      file-order = order-of unsigned;
     }

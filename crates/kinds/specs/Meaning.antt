@@ -24,11 +24,15 @@ pub record Order (K : Type 0) : Type 0 where
 pub record Meaning (R T N K : Type 0) : Type 0 where
   -- what a row is read as, under a head's supplier
   pub reads : ℕ → List ℕ → Result R FieldFault
+  -- a record to read into, before anything was read
+  pub blank : R
   pub supplier : R → ℕ
   -- the number, in an order that tells any two numbers apart
   pub number : R → N
   pub numbers : Order N
   pub apart : (x y : N) → numbers .cmp x y ≡ Equal → x ≡ y
+  -- the number as a fault tells it
+  pub record-number : N → ℕ
   pub key-flag : R → KeyFlag
   pub told : R → T
   pub order : R → K

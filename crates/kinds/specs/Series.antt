@@ -111,7 +111,7 @@ series-told row =
       offer = number-in 66 67 row;
       usual = sign-in usual-sign 68 row;
       bus = sign-in bus-sign 70 row;
-      ferry = sign-in ferry-sign 72 row
+      ferry = sign-in ferry-sign 72 row;
     }
 
 abbrev pub series-flags : List ℕ → SeriesFlags
@@ -122,7 +122,7 @@ series-flags row =
       destination = flag-in 62 row;
       route = flag-in 69 row;
       bus = flag-in 71 row;
-      ferry = flag-in 73 row
+      ferry = flag-in 73 row;
     }
 
 abbrev pub series-in : ℕ → List ℕ → Series
@@ -132,7 +132,7 @@ series-in s row =
       number = number-in 5 9 row;
       «key_flag» = key-flag (columns 10 10 row);
       told = series-told row;
-      amended = series-flags row
+      amended = series-flags row;
     }
 
 abbrev pub types-differ : SeriesType → SeriesType → Bool
@@ -172,7 +172,7 @@ series-takes t r =
       offer = taken (r .amended .route) (r .told .offer) (t .offer);
       usual = taken (r .amended .route) (r .told .usual) (t .usual);
       bus = taken (r .amended .bus) (r .told .bus) (t .bus);
-      ferry = taken (r .amended .ferry) (r .told .ferry) (t .ferry)
+      ferry = taken (r .amended .ferry) (r .told .ferry) (t .ferry);
     }
 
 -- type, the two designations and the route number, in turn
@@ -182,18 +182,18 @@ series-key r =
       «series_type» = type-number (r .told .«series_type»);
       departure = r .told .departure .designation;
       destination = r .told .destination .designation;
-      «route_number» = r .told .«route_number»
+      «route_number» = r .told .«route_number»;
     }
 
 -- an end's three fields are covered by one flag
 pub takes-end : (flag : Bool) (newer older : End) → Reaches flag (numbers-differ (older .station) (newer .station)) →
-  Reaches flag (numbers-differ (older .connection) (newer .connection)) → Reaches flag (texts-differ (older .designation) (newer .designation)) → taken flag newer older ≡ newer
+    Reaches flag (numbers-differ (older .connection) (newer .connection)) → Reaches flag (texts-differ (older .designation) (newer .designation)) → taken flag newer older ≡ newer
 takes-end true newer older a b c = refl
 takes-end false newer older a b c =
     λ i. record {
       station = takes-number false (newer .station) (older .station) a i;
       connection = takes-number false (newer .connection) (older .connection) b i;
-      designation = takes-text false (newer .designation) (older .designation) c i
+      designation = takes-text false (newer .designation) (older .designation) c i;
     }
 
 pub same-type : (a b : SeriesType) → type-number a ≡ type-number b → a ≡ b
@@ -222,22 +222,22 @@ series-takes-all t r h =
     λ i. record {
       «series_type» = takes-type (r .amended .«series_type») (r .told .«series_type») (t .«series_type») (λ z. type-flag z .0 refl) i;
       departure =
-        takes-end (r .amended .departure) (r .told .departure) (t .departure)
-        (λ z. departure-flag z .1 .1 .0 refl) (λ z. departure-flag z .1 .1 .1 .0 refl) (λ z. departure-flag z .1 .1 .1 .1 .0 refl) i;
+          takes-end (r .amended .departure) (r .told .departure) (t .departure)
+          (λ z. departure-flag z .1 .1 .0 refl) (λ z. departure-flag z .1 .1 .1 .0 refl) (λ z. departure-flag z .1 .1 .1 .1 .0 refl) i;
       destination =
-        takes-end (r .amended .destination) (r .told .destination) (t .destination)
-        (λ z. destination-flag z .1 .1 .1 .1 .1 .1 .0 refl) (λ z. destination-flag z .1 .1 .1 .1 .1 .1 .1 .0 refl)
-        (λ z. destination-flag z .1 .1 .1 .1 .1 .1 .1 .1 .0 refl) i;
+          takes-end (r .amended .destination) (r .told .destination) (t .destination)
+          (λ z. destination-flag z .1 .1 .1 .1 .1 .1 .0 refl) (λ z. destination-flag z .1 .1 .1 .1 .1 .1 .1 .0 refl)
+          (λ z. destination-flag z .1 .1 .1 .1 .1 .1 .1 .1 .0 refl) i;
       «route_number» =
-        takes-number (r .amended .route) (r .told .«route_number») (t .«route_number»)
-        (λ z. route-flag z .1 .1 .1 .1 .1 .1 .1 .1 .1 .1 .0 refl) i;
+          takes-number (r .amended .route) (r .told .«route_number») (t .«route_number»)
+          (λ z. route-flag z .1 .1 .1 .1 .1 .1 .1 .1 .1 .1 .0 refl) i;
       product = takes-number (r .amended .route) (r .told .product) (t .product) (λ z. route-flag z .1 .1 .1 .1 .1 .1 .1 .1 .1 .1 .1 .0 refl) i;
       offer = takes-number (r .amended .route) (r .told .offer) (t .offer) (λ z. route-flag z .1 .1 .1 .1 .1 .1 .1 .1 .1 .1 .1 .1 .0 refl) i;
       usual = takes-sign (r .amended .route) (r .told .usual) (t .usual) (λ z. route-flag z .1 .1 .1 .1 .1 .1 .1 .1 .1 .1 .1 .1 .1 .0 refl) i;
       bus = takes-sign (r .amended .bus) (r .told .bus) (t .bus) (λ z. bus-flag z .1 .1 .1 .1 .1 .1 .1 .1 .1 .1 .1 .1 .1 .1 .1 .0 refl) i;
       ferry =
-        takes-sign (r .amended .ferry) (r .told .ferry) (t .ferry)
-        (λ z. ferry-flag z .1 .1 .1 .1 .1 .1 .1 .1 .1 .1 .1 .1 .1 .1 .1 .1 .1 .0 refl) i
+          takes-sign (r .amended .ferry) (r .told .ferry) (t .ferry)
+          (λ z. ferry-flag z .1 .1 .1 .1 .1 .1 .1 .1 .1 .1 .1 .1 .1 .1 .1 .1 .1 .0 refl) i;
     }
   where
     by : (f : ℕ) (flag : Bool) → flag ≡ differs-under f series-lines (series-marks t r) → flag ≡ false → Spared f series-lines (series-marks t r)
@@ -251,10 +251,12 @@ abbrev pub series-meaning : Meaning Series SeriesTold ℕ SeriesKey
 series-meaning =
     record {
       reads = λ s row. read-as (series-in s row) (checked (row-context s row) row series-table);
+      blank = series-in 0 [];
       supplier = λ r. r .supplier;
       number = λ r. r .number;
       numbers = order-of unsigned;
       apart = apart-numbers;
+      record-number = λ n. n;
       key-flag = λ r. r .«key_flag»;
       told = λ r. r .told;
       order = series-key;
@@ -262,5 +264,5 @@ series-meaning =
       marks = series-marks;
       takes = series-takes;
       takes-all = series-takes-all;
-      file-order = order-of by-key
+      file-order = order-of by-key;
     }

@@ -56,7 +56,7 @@ told-columns row =
       name = text-in 35 16 50 row;
       designation = text-in 17 52 68 row;
       «route_description» = text-in 17 70 86 row;
-      zone = number-in 88 91 row
+      zone = number-in 88 91 row;
     }
 
 abbrev pub flag-columns : List ℕ → StationFlags
@@ -65,7 +65,7 @@ flag-columns row =
       name = flag-in 51 row;
       designation = flag-in 69 row;
       «route_description» = flag-in 87 row;
-      zone = flag-in 92 row
+      zone = flag-in 92 row;
     }
 
 abbrev pub station-in : ℕ → List ℕ → Station
@@ -75,7 +75,7 @@ station-in s row =
       number = number-in 5 9 row;
       «key_flag» = key-flag (columns 10 10 row);
       told = told-columns row;
-      amended = flag-columns row
+      amended = flag-columns row;
     }
 
 abbrev pub station-marks : StationTold → Station → List Bool
@@ -96,7 +96,7 @@ station-takes t r =
       name = taken (r .amended .name) (r .told .name) (t .name);
       designation = taken (r .amended .designation) (r .told .designation) (t .designation);
       «route_description» = taken (r .amended .«route_description») (r .told .«route_description») (t .«route_description»);
-      zone = taken (r .amended .zone) (r .told .zone) (t .zone)
+      zone = taken (r .amended .zone) (r .told .zone) (t .zone);
     }
 
 -- law 1
@@ -106,9 +106,9 @@ station-takes-all t r h =
       name = takes-text (r .amended .name) (r .told .name) (t .name) (λ z. by 6 _ (h .1 .0) z .0 refl) i;
       designation = takes-text (r .amended .designation) (r .told .designation) (t .designation) (λ z. by 8 _ (h .1 .1 .1 .0) z .1 .1 .0 refl) i;
       «route_description» =
-        takes-text (r .amended .«route_description») (r .told .«route_description») (t .«route_description»)
-        (λ z. by 10 _ (h .1 .1 .1 .1 .1 .0) z .1 .1 .1 .1 .0 refl) i;
-      zone = takes-number (r .amended .zone) (r .told .zone) (t .zone) (λ z. by 12 _ (h .1 .1 .1 .1 .1 .1 .1 .0) z .1 .1 .1 .1 .1 .1 .0 refl) i
+          takes-text (r .amended .«route_description») (r .told .«route_description») (t .«route_description»)
+          (λ z. by 10 _ (h .1 .1 .1 .1 .1 .0) z .1 .1 .1 .1 .0 refl) i;
+      zone = takes-number (r .amended .zone) (r .told .zone) (t .zone) (λ z. by 12 _ (h .1 .1 .1 .1 .1 .1 .1 .0) z .1 .1 .1 .1 .1 .1 .0 refl) i;
     }
   where
     by : (f : ℕ) (flag : Bool) → flag ≡ differs-under f station-lines (station-marks t r) → flag ≡ false → Spared f station-lines (station-marks t r)
@@ -118,10 +118,12 @@ abbrev pub station-meaning : Meaning Station StationTold ℕ (Text 17)
 station-meaning =
     record {
       reads = λ s row. read-as (station-in s row) (checked (row-context s row) row station-table);
+      blank = station-in 0 [];
       supplier = λ r. r .supplier;
       number = λ r. r .number;
       numbers = order-of unsigned;
       apart = apart-numbers;
+      record-number = λ n. n;
       key-flag = λ r. r .«key_flag»;
       told = λ r. r .told;
       order = λ r. r .told .designation;
@@ -129,5 +131,5 @@ station-meaning =
       marks = station-marks;
       takes = station-takes;
       takes-all = station-takes-all;
-      file-order = order-of (by-text 17)
+      file-order = order-of (by-text 17);
     }

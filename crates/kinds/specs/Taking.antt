@@ -32,7 +32,7 @@ same-sign false false e = refl
 
 -- with same for a kind of value, the newer value is taken where it differs
 pub takes : {A : Type 0} (differ : A → A → Bool) → ((a b : A) → differ a b ≡ false → a ≡ b) →
-  (flag : Bool) (newer older : A) → Reaches flag (differ older newer) → taken flag newer older ≡ newer
+    (flag : Bool) (newer older : A) → Reaches flag (differ older newer) → taken flag newer older ≡ newer
 takes differ same true newer older h = refl
 takes differ same false newer older h = same older newer (h refl)
 
@@ -56,9 +56,11 @@ spares flag f ls ms e z = go ls ms (sym e ∙ z)
     here true true rest e k = e
     here true false rest e k = refl
     here false m rest e k = absurd (true≢false (sym k))
+
     past : (a rest : Bool) → (a || rest) ≡ false → rest ≡ false
     past true rest e = absurd (true≢false e)
     past false rest e = e
+
     go : (ls : List Line) (ms : List Bool) → differs-under f ls ms ≡ false → Spared f ls ms
     go [] ms e = tt
     go (l ∷ ls) [] e = tt

@@ -1,5 +1,5 @@
 // The description of a fare table.
-ghost use Rattle.kinds.specs.FareTable.{fare-table-flags, fare-table-lines, fare-table-marks, fare-table-meaning, fare-table-table, fare-table-told, table-type, table-type-number};
+ghost use Rattle.kinds.specs.FareTable.{fare-table-flags, fare-table-in, fare-table-lines, fare-table-marks, fare-table-meaning, fare-table-table, fare-table-told, table-type, table-type-number};
 ghost use mathlib.Core.Path.{_≡_};
 use crate::cover::Cover;
 use crate::cover::Line;
@@ -157,6 +157,20 @@ fn flags_in(row: &[u8]) -> FareTableFlags
     }
 }
 
+// What the columns of a row say, whether they keep their rules or not.
+fn record_in(supplier: u32, row: &[u8]) -> FareTable
+    ensures { λ r. ⌜ r ≡ fare-table-in supplier (now (row .entry)) ⌝ }
+{
+    FareTable {
+        supplier,
+        number: number_in(row, 5, 8),
+        key_flag: KeyFlag::read(part(row, 9, 9)),
+        told: told_in(row),
+        amended: flags_in(row),
+        replaces: number_in(row, 186, 189),
+    }
+}
+
 impl FareTable {
     fn marks(&self, older: &FareTableTold) -> [bool; 10]
         ensures { λ r. ⌜ r ≡ fare-table-marks (now (older .entry)) (now (self .entry)) ⌝ }
@@ -180,32 +194,41 @@ impl FareTable {
 
 pub impl Kind for FareTable as FareTableKind {
     const LETTER: char = 'P';
+
     const LEAST: u32 = 207;
+
     const GREATEST: u32 = 207;
 
     type Number = u32;
+
     type Told = FareTableTold;
+
     type Key = u32;
 
     ghost meaning = { fare-table-meaning };
 
+    fn blank() -> FareTable {
+        record_in(0, &[])
+    }
+
     fn read(&mut self, supplier: u32, row: &[u8]) -> Result<(), FieldFault> {
-        let number = number_in(row, 5, 8);
-        let key_flag = KeyFlag::read(part(row, 9, 9));
-        check(layout(), &Context { supplier, number, key_flag }, row)?;
-        *self = FareTable {
+        let record = record_in(supplier, row);
+        let context = Context {
             supplier,
-            number,
-            key_flag,
-            told: told_in(row),
-            amended: flags_in(row),
-            replaces: number_in(row, 186, 189),
+            number: record.number,
+            key_flag: record.key_flag,
         };
+        check(layout(), &context, row)?;
+        *self = record;
         Ok(())
     }
 
     fn number(&self) -> u32 {
         self.number
+    }
+
+    fn record_number(number: u32) -> u32 {
+        number
     }
 
     fn key_flag(&self) -> KeyFlag {
@@ -235,8 +258,16 @@ pub impl Kind for FareTable as FareTableKind {
             french: described.french,
             german: described.german,
             english: described.english,
-            currency: if amended.currency { newer.currency } else { older.currency },
-            return_is_double: if amended.return_is_double { newer.return_is_double } else { older.return_is_double },
+            currency: if amended.currency {
+                newer.currency
+            } else {
+                older.currency
+            },
+            return_is_double: if amended.return_is_double {
+                newer.return_is_double
+            } else {
+                older.return_is_double
+            },
         }
     }
 }

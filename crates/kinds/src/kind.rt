@@ -17,10 +17,13 @@ pub trait Kind: Copy {
     const LETTER: char;
     // the length of a row is from the least to the greatest
     const LEAST: u32;
+
     const GREATEST: u32;
 
     type Number: Ord + Copy;
+
     type Told: Copy;
+
     type Key: Ord + Copy;
 
     ghost meaning: { Meaning Self Self·Told Self·Number Self·Key };
@@ -30,6 +33,10 @@ pub trait Kind: Copy {
 
     law ordered: { (x y : Self·Key) (r : Ordering) → Key·Ord .orders x y r → r ≡ meaning .file-order .cmp x y };
 
+    // A record to read into, before anything was read.
+    fn blank() -> Self
+        ensures { λ r. ⌜ r ≡ meaning .blank ⌝ };
+
     // Reads a row under a head's supplier into this record, or gives the first field fault and leaves it as it was.
     fn read(&mut self, supplier: u32, row: &[u8]) -> Result<(), FieldFault>
         ensures reads { λ r. ⌜ Cases r (λ _. meaning .reads supplier (now (row .entry)) ≡ Ok (now (self .exit))) (λ e. (meaning .reads supplier (now (row .entry)) ≡ Err e) × (now (self .exit) ≡ now (self .entry))) ⌝ }
@@ -37,6 +44,10 @@ pub trait Kind: Copy {
 
     fn number(&self) -> Self::Number
         ensures { λ r. ⌜ r ≡ meaning .number (now (self .entry)) ⌝ };
+
+    // The number as a fault tells it.
+    fn record_number(number: Self::Number) -> u32
+        ensures { λ r. ⌜ r ≡ meaning .record-number number ⌝ };
 
     fn key_flag(&self) -> KeyFlag
         ensures { λ r. ⌜ r ≡ meaning .key-flag (now (self .entry)) ⌝ };

@@ -1,7 +1,7 @@
 pub mod cover;
-pub mod order;
-pub mod kind;
-mod values;
-pub mod station;
-pub mod series;
 pub mod fare_table;
+pub mod kind;
+pub mod order;
+pub mod series;
+pub mod station;
+mod values;

@@ -1,5 +1,5 @@
 // A series: a numbered route between two stations.
-ghost use Rattle.kinds.specs.Series.{end-columns, series-flags, series-lines, series-marks, series-meaning, series-table, series-told, series-type, type-number};
+ghost use Rattle.kinds.specs.Series.{end-columns, series-flags, series-in, series-lines, series-marks, series-meaning, series-table, series-told, series-type, type-number};
 ghost use Prim.Native.Nat.{_+_, _≤_};
 ghost use mathlib.Core.Path.{_≡_};
 use crate::cover::Cover;
@@ -22,9 +22,9 @@ use fields::rule::FieldType::Numeric;
 use fields::rule::Need::Mandatory;
 use fields::rule::Need::Optional;
 use fields::text::Text;
+use fields::text::TextEq;
 use fields::text::TextOrd;
 use fields::text::TextPartialEq;
-use fields::text::TextEq;
 use fields::text::TextPartialOrd;
 
 // What a series leads between.
@@ -217,6 +217,19 @@ fn flags_in(row: &[u8]) -> SeriesFlags
     }
 }
 
+// What the columns of a row say, whether they keep their rules or not.
+fn record_in(supplier: u32, row: &[u8]) -> Series
+    ensures { λ r. ⌜ r ≡ series-in supplier (now (row .entry)) ⌝ }
+{
+    Series {
+        supplier,
+        number: number_in(row, 5, 9),
+        key_flag: KeyFlag::read(part(row, 10, 10)),
+        told: told_in(row),
+        amended: flags_in(row),
+    }
+}
+
 impl Series {
     fn marks(&self, older: &SeriesTold) -> [bool; 19]
         ensures { λ r. ⌜ r ≡ series-marks (now (older .entry)) (now (self .entry)) ⌝ }
@@ -232,7 +245,10 @@ impl Series {
             amended.departure,
             older.destination.station != newer.destination.station,
             older.destination.connection != newer.destination.connection,
-            texts_differ(&older.destination.designation, &newer.destination.designation),
+            texts_differ(
+                &older.destination.designation,
+                &newer.destination.designation,
+            ),
             amended.destination,
             older.route_number != newer.route_number,
             older.product != newer.product,
@@ -249,31 +265,41 @@ impl Series {
 
 pub impl Kind for Series as SeriesKind {
     const LETTER: char = 'S';
+
     const LEAST: u32 = 73;
+
     const GREATEST: u32 = 512;
 
     type Number = u32;
+
     type Told = SeriesTold;
+
     type Key = SeriesKey;
 
     ghost meaning = { series-meaning };
 
+    fn blank() -> Series {
+        record_in(0, &[])
+    }
+
     fn read(&mut self, supplier: u32, row: &[u8]) -> Result<(), FieldFault> {
-        let number = number_in(row, 5, 9);
-        let key_flag = KeyFlag::read(part(row, 10, 10));
-        check(layout(), &Context { supplier, number, key_flag }, row)?;
-        *self = Series {
+        let record = record_in(supplier, row);
+        let context = Context {
             supplier,
-            number,
-            key_flag,
-            told: told_in(row),
-            amended: flags_in(row),
+            number: record.number,
+            key_flag: record.key_flag,
         };
+        check(layout(), &context, row)?;
+        *self = record;
         Ok(())
     }
 
     fn number(&self) -> u32 {
         self.number
+    }
+
+    fn record_number(number: u32) -> u32 {
+        number
     }
 
     fn key_flag(&self) -> KeyFlag {
@@ -303,15 +329,31 @@ pub impl Kind for Series as SeriesKind {
         let amended = &self.amended;
         let route = if amended.route { newer } else { older };
         SeriesTold {
-            series_type: if amended.series_type { newer.series_type } else { older.series_type },
-            departure: if amended.departure { newer.departure } else { older.departure },
-            destination: if amended.destination { newer.destination } else { older.destination },
+            series_type: if amended.series_type {
+                newer.series_type
+            } else {
+                older.series_type
+            },
+            departure: if amended.departure {
+                newer.departure
+            } else {
+                older.departure
+            },
+            destination: if amended.destination {
+                newer.destination
+            } else {
+                older.destination
+            },
             route_number: route.route_number,
             product: route.product,
             offer: route.offer,
             usual: route.usual,
             bus: if amended.bus { newer.bus } else { older.bus },
-            ferry: if amended.ferry { newer.ferry } else { older.ferry },
+            ferry: if amended.ferry {
+                newer.ferry
+            } else {
+                older.ferry
+            },
         }
     }
 }

@@ -1,5 +1,5 @@
 // A station of a carrier's network.
-ghost use Rattle.kinds.specs.Station.{flag-columns, station-lines, station-marks, station-meaning, station-table, told-columns};
+ghost use Rattle.kinds.specs.Station.{flag-columns, station-in, station-lines, station-marks, station-meaning, station-table, told-columns};
 ghost use mathlib.Core.Path.{_≡_};
 use crate::cover::Cover;
 use crate::cover::Line;
@@ -92,6 +92,41 @@ fn lines() -> &'static [Line]
     &LINES
 }
 
+fn told_in(row: &[u8]) -> StationTold
+    ensures { λ r. ⌜ r ≡ told-columns (now (row .entry)) ⌝ }
+{
+    StationTold {
+        name: Text::read(part(row, 16, 50)),
+        designation: Text::read(part(row, 52, 68)),
+        route_description: Text::read(part(row, 70, 86)),
+        zone: number_in(row, 88, 91),
+    }
+}
+
+fn flags_in(row: &[u8]) -> StationFlags
+    ensures { λ r. ⌜ r ≡ flag-columns (now (row .entry)) ⌝ }
+{
+    StationFlags {
+        name: is_amended(part(row, 51, 51)),
+        designation: is_amended(part(row, 69, 69)),
+        route_description: is_amended(part(row, 87, 87)),
+        zone: is_amended(part(row, 92, 92)),
+    }
+}
+
+// What the columns of a row say, whether they keep their rules or not.
+fn record_in(supplier: u32, row: &[u8]) -> Station
+    ensures { λ r. ⌜ r ≡ station-in supplier (now (row .entry)) ⌝ }
+{
+    Station {
+        supplier,
+        number: number_in(row, 5, 9),
+        key_flag: KeyFlag::read(part(row, 10, 10)),
+        told: told_in(row),
+        amended: flags_in(row),
+    }
+}
+
 impl Station {
     fn marks(&self, older: &StationTold) -> [bool; 8]
         ensures { λ r. ⌜ r ≡ station-marks (now (older .entry)) (now (self .entry)) ⌝ }
@@ -112,31 +147,41 @@ impl Station {
 
 pub impl Kind for Station as StationKind {
     const LETTER: char = 'G';
+
     const LEAST: u32 = 92;
+
     const GREATEST: u32 = 512;
 
     type Number = u32;
+
     type Told = StationTold;
+
     type Key = Text<17>;
 
     ghost meaning = { station-meaning };
 
+    fn blank() -> Station {
+        record_in(0, &[])
+    }
+
     fn read(&mut self, supplier: u32, row: &[u8]) -> Result<(), FieldFault> {
-        let number = number_in(row, 5, 9);
-        let key_flag = KeyFlag::read(part(row, 10, 10));
-        check(layout(), &Context { supplier, number, key_flag }, row)?;
-        *self = Station {
+        let record = record_in(supplier, row);
+        let context = Context {
             supplier,
-            number,
-            key_flag,
-            told: told_in(row),
-            amended: flags_in(row),
+            number: record.number,
+            key_flag: record.key_flag,
         };
+        check(layout(), &context, row)?;
+        *self = record;
         Ok(())
     }
 
     fn number(&self) -> u32 {
         self.number
+    }
+
+    fn record_number(number: u32) -> u32 {
+        number
     }
 
     fn key_flag(&self) -> KeyFlag {
@@ -161,31 +206,17 @@ pub impl Kind for Station as StationKind {
         let amended = &self.amended;
         StationTold {
             name: if amended.name { newer.name } else { older.name },
-            designation: if amended.designation { newer.designation } else { older.designation },
-            route_description: if amended.route_description { newer.route_description } else { older.route_description },
+            designation: if amended.designation {
+                newer.designation
+            } else {
+                older.designation
+            },
+            route_description: if amended.route_description {
+                newer.route_description
+            } else {
+                older.route_description
+            },
             zone: if amended.zone { newer.zone } else { older.zone },
         }
-    }
-}
-
-fn told_in(row: &[u8]) -> StationTold
-    ensures { λ r. ⌜ r ≡ told-columns (now (row .entry)) ⌝ }
-{
-    StationTold {
-        name: Text::read(part(row, 16, 50)),
-        designation: Text::read(part(row, 52, 68)),
-        route_description: Text::read(part(row, 70, 86)),
-        zone: number_in(row, 88, 91),
-    }
-}
-
-fn flags_in(row: &[u8]) -> StationFlags
-    ensures { λ r. ⌜ r ≡ flag-columns (now (row .entry)) ⌝ }
-{
-    StationFlags {
-        name: is_amended(part(row, 51, 51)),
-        designation: is_amended(part(row, 69, 69)),
-        route_description: is_amended(part(row, 87, 87)),
-        zone: is_amended(part(row, 92, 92)),
     }
 }

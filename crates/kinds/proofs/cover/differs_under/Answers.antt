@@ -22,7 +22,7 @@ returns-then-marks-i c =
     let ms = c .args .marks .now in
     let i = c .loop-i .i in
     let step : differs-under f (drop i ls) (drop i ms) ≡ ((covered-by f (getD ls i (line 0 (By 0)) .cover) && getD ms i false) || differs-under f (drop (i + 1) ls) (drop (i + 1) ms)) =
-      both-more (differs-under f) ls ms i (line 0 (By 0)) false (c .loop-i-test .taken) (c .if-i-marks .left) in
+    both-more (differs-under f) ls ms i (line 0 (By 0)) false (c .loop-i-test .taken) (c .if-i-marks .left) in
     let by = c .if-is-by .ensures tt in
     grind arith
 
@@ -33,10 +33,10 @@ loop-i-again c =
     let ms = c .args .marks .now in
     let i = c .loop-i .i in
     let step : differs-under f (drop i ls) (drop i ms) ≡ ((covered-by f (getD ls i (line 0 (By 0)) .cover) && getD ms i false) || differs-under f (drop (i + 1) ls) (drop (i + 1) ms)) =
-      both-more (differs-under f) ls ms i (line 0 (By 0)) false (c .loop-i-test .taken) (c .if-i-marks .left) in
+    both-more (differs-under f) ls ms i (line 0 (By 0)) false (c .loop-i-test .taken) (c .if-i-marks .left) in
     elim (c .else-is-by .came) [
-      else-is-by·by·then-is-by·else-marks-i w ↦ grind arith
-    | else-is-by·by·else-is-by w ↦ grind arith
+      | else-is-by·by·then-is-by·else-marks-i w ↦ grind arith
+      | else-is-by·by·else-is-by w ↦ grind arith
     ]
 
 pub returns : need.returns
