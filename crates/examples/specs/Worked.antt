@@ -1,29 +1,38 @@
 -- Worked examples of the format, in one statement on the definitions that the contracts use.
 use mathlib.Core.Path.{_≡_}
-use mathlib.Core.List.{[], _∷_}
+use mathlib.Core.Bool.{true}
+use mathlib.Core.List.{List, _++_}
 use Prim.Native.Nat.{ℕ}
 use lib.Chars.{codes}
+use Rattle.std.specs.Results.{isOk}
 use Rattle.std.specs.declared.option.Option.{Option}
 use Rattle.std.specs.declared.option.Option.the-variants.{Some, None}
 use Rattle.std.specs.declared.result.Result.the-variants.{Ok, Err}
 use Rattle.fields.specs.declared.fault.FieldFault.the-variants.{NotAllowed}
-use Rattle.fields.specs.declared.flags.KeyFlag.the-variants.{NoAmendment, New}
-use Rattle.fields.specs.declared.rule.Content.the-variants.{Amendment, Between}
-use Rattle.fields.specs.declared.rule.Field.{Field}
-use Rattle.fields.specs.declared.rule.FieldType.the-variants.{Numeric}
-use Rattle.fields.specs.declared.rule.Need.the-variants.{Mandatory}
 use Rattle.fields.specs.Calendar.{date}
-use Rattle.fields.specs.Rules.{fault, field}
+use Rattle.kinds.specs.declared.fare_table.FareTable.{FareTable}
+use Rattle.kinds.specs.declared.station.Station.{Station}
+use Rattle.kinds.specs.FareTable.{fare-table-meaning}
+use Rattle.kinds.specs.Meaning.{compares}
+use Rattle.kinds.specs.Station.{station-in, station-meaning, told-columns}
 use Rattle.deliveries.specs.declared.fault.HeadFault.the-variants.{BrokenField}
 use Rattle.deliveries.specs.declared.head.Head.{Head}
 use Rattle.deliveries.specs.Head.{Bears, head-fault}
 
--- a fare table's number, and an amendment flag alone in its row
-abbrev pub table-number : Field
-table-number = field 2 5 8 Numeric Mandatory (Between 1000 9999)
+-- the row of station 07115 with a key flag, the flag of its name, and its zone with that flag
+abbrev pub station-row : List ℕ → List ℕ → List ℕ → List ℕ
+station-row key name-flag zone =
+    codes "008107115" ++ (key ++ (codes "     Wien Hauptbahnhof                  " ++ (name-flag
+    ++ (codes "Wien Hbf         0                 0" ++ zone))))
 
-abbrev pub amendment-flag : Field
-amendment-flag = field 6 1 1 Numeric Mandatory Amendment
+-- the row of a fare table with its number and its file name
+abbrev pub fare-table-row : List ℕ → List ℕ → List ℕ
+fare-table-row number name =
+    codes "0081" ++ (number ++ (codes "01Normalpreis                   "
+    ++ (codes "                                                            "
+    ++ (codes "                              "
+    ++ (codes "                              "
+    ++ (codes "0EUR0  00        " ++ (name ++ codes "                      ")))))))
 
 pub record Examples : Type 0 where
   -- a head of supplier 0081 with no rows, and the same with a station length of 91
@@ -36,8 +45,15 @@ pub record Examples : Type 0 where
   pub full-century : date (codes "21000229") ≡ None
   pub month-13 : date (codes "20261301") ≡ None
   -- a fare table's number is from 1000 on
-  pub table-0999 : fault (record { supplier = 81; number = 999; «key_flag» = NoAmendment }) (codes "00810999") table-number ≡ Some (NotAllowed 2)
-  pub table-1000 : fault (record { supplier = 81; number = 1000; «key_flag» = NoAmendment }) (codes "00811000") table-number ≡ None
-  -- an amendment flag 3 in a new row
-  pub flag-3-in-new : fault (record { supplier = 81; number = 1; «key_flag» = New }) (codes "3") amendment-flag ≡ Some (NotAllowed 6)
-  pub flag-3 : fault (record { supplier = 81; number = 1; «key_flag» = NoAmendment }) (codes "3") amendment-flag ≡ None
+  pub table-0999 : fare-table-meaning .reads 81 (fare-table-row (codes "0999") (codes "09990081")) ≡ Err (NotAllowed 2)
+  pub table-1000 : isOk (fare-table-meaning .reads 81 (fare-table-row (codes "1000") (codes "10000081"))) ≡ true
+  -- an amendment flag 3 in a new row, and in one that is not new
+  pub flag-3-in-new : station-meaning .reads 81 (station-row (codes "1") (codes "3") (codes "    0")) ≡ Err (NotAllowed 6)
+  pub flag-3 : isOk (station-meaning .reads 81 (station-row (codes "0") (codes "3") (codes "    0"))) ≡ true
+  -- a zone that goes from blank to 0000
+  pub zone-flag-0 :
+      compares station-meaning (told-columns (station-row (codes "1") (codes "0") (codes "     ")))
+      (station-in 81 (station-row (codes "0") (codes "0") (codes "00000"))) ≡ None
+  pub zone-flag-3 :
+      compares station-meaning (told-columns (station-row (codes "1") (codes "0") (codes "     ")))
+      (station-in 81 (station-row (codes "0") (codes "0") (codes "00003"))) ≡ Some 12

@@ -4,6 +4,7 @@ use mathlib.Core.List.{List, [], _∷_, _++_}
 use Prim.Native.Nat.{ℕ, zero, suc, _+_, _-_, _*_, _/_, _%_}
 use lib.ListN.{length, take, drop, replicate}
 use lib.Dec.{leb, eqb}
+use Rattle.std.specs.shelf.Lists.{ending}
 use Rattle.fields.specs.declared.class.Class.{Class}
 use Rattle.fields.specs.declared.class.Class.the-variants.{Digit, Letter, Plain, Printable, Only}
 
@@ -43,3 +44,7 @@ padded (suc w) n = padded w (n / 10) ++ ((48 + n % 10) ∷ [])
 -- the text of n columns: the first n bytes, or blanks where there are fewer
 unfoldable pub text : ℕ → List ℕ → List ℕ
 text n bs = cond (leb n (length bs)) (take n bs) (replicate n 32)
+
+-- a text without the blanks at its end
+unfoldable pub trimmed : List ℕ → List ℕ
+trimmed bs = take (length bs - ending (λ b. eqb b 32) bs) bs

@@ -1,5 +1,5 @@
 // Text of a fixed number of columns, byte for byte as the row has it.
-ghost use Rattle.fields.specs.Bytes.{text};
+ghost use Rattle.fields.specs.Bytes.{text, trimmed};
 ghost use Rattle.std.specs.Lexical.{Lex, LexSome};
 ghost use Rattle.std.specs.Orderings.{Decides, Ranked};
 ghost use Rattle.std.specs.Options.{SomeBy};
@@ -7,6 +7,7 @@ ghost use Prim.Native.Nat.{_<_};
 ghost use mathlib.Core.Path.{_≡_};
 use crate::bytes::BLANK;
 use std::cmp::Ordering;
+use std::fmt;
 
 #[derive(Clone, Copy)]
 pub struct Text<const N: usize> {
@@ -28,6 +29,33 @@ impl<const N: usize> Text<N> {
         ensures { λ r. ⌜ now r ≡ now (self .entry) .bytes ⌝ }
     {
         &self.bytes
+    }
+
+    // The text without the blanks at its end.
+    pub fn trimmed(&self) -> &[u8]
+        ensures { λ r. ⌜ now r ≡ trimmed (now (self .entry) .bytes) ⌝ }
+    {
+        without_end(&self.bytes)
+    }
+}
+
+fn without_end(bytes: &[u8]) -> &[u8]
+    ensures { λ r. ⌜ now r ≡ trimmed (now (bytes .entry)) ⌝ }
+{
+    let mut end = bytes.len();
+    while end > 0 && bytes[end - 1] == BLANK {
+        end -= 1;
+    }
+    &bytes[0..end]
+}
+
+// The text without the blanks at its end, in UTF-8.
+pub impl<const N: usize> fmt::Display for Text<N> as TextDisplay {
+    fn fmt<W: fmt::Write>(&self, f: &mut fmt::Formatter<W>) -> fmt::Result {
+        for byte in self.trimmed() {
+            f.write_char(char::from(*byte))?;
+        }
+        Ok(())
     }
 }
 

@@ -20,6 +20,8 @@ use fields::rule::FieldType::Numeric;
 use fields::rule::Need::Mandatory;
 use fields::rule::Need::Optional;
 use fields::text::Text;
+use fields::text::TextDisplay;
+use std::fmt;
 
 // How a fare table is built.
 #[derive(Clone, Copy)]
@@ -269,5 +271,25 @@ pub impl Kind for FareTable as FareTableKind {
                 older.return_is_double
             },
         }
+    }
+}
+
+// The told fields in field order, as `find` answers them.
+pub impl fmt::Display for FareTableTold as FareTableToldDisplay {
+    fn fmt<W: fmt::Write>(&self, f: &mut fmt::Formatter<W>) -> fmt::Result {
+        let FareTableTold {
+            official,
+            french,
+            german,
+            english,
+            currency,
+            ..
+        } = *self;
+        let table_type = self.table_type.number();
+        let double = if self.return_is_double { 1 } else { 0 };
+        write!(
+            f,
+            "{table_type}|{official}|{french}|{german}|{english}|{currency}|{double}"
+        )
     }
 }

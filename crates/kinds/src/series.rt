@@ -22,10 +22,12 @@ use fields::rule::FieldType::Numeric;
 use fields::rule::Need::Mandatory;
 use fields::rule::Need::Optional;
 use fields::text::Text;
+use fields::text::TextDisplay;
 use fields::text::TextEq;
 use fields::text::TextOrd;
 use fields::text::TextPartialEq;
 use fields::text::TextPartialOrd;
+use std::fmt;
 
 // What a series leads between.
 #[derive(Clone, Copy)]
@@ -355,5 +357,38 @@ pub impl Kind for Series as SeriesKind {
                 older.ferry
             },
         }
+    }
+}
+
+pub impl fmt::Display for End as EndDisplay {
+    fn fmt<W: fmt::Write>(&self, f: &mut fmt::Formatter<W>) -> fmt::Result {
+        let End {
+            station,
+            connection,
+            designation,
+        } = *self;
+        write!(f, "{station}|{connection}|{designation}")
+    }
+}
+
+// The told fields in field order, as `find` answers them.
+pub impl fmt::Display for SeriesTold as SeriesToldDisplay {
+    fn fmt<W: fmt::Write>(&self, f: &mut fmt::Formatter<W>) -> fmt::Result {
+        let SeriesTold {
+            departure,
+            destination,
+            route_number,
+            product,
+            offer,
+            ..
+        } = *self;
+        let series_type = self.series_type.number();
+        let usual = if self.usual { "+" } else { "" };
+        let bus = if self.bus { "B" } else { "" };
+        let ferry = if self.ferry { "S" } else { "" };
+        write!(
+            f,
+            "{series_type}|{departure}|{destination}|{route_number}|{product}|{offer}|{usual}|{bus}|{ferry}"
+        )
     }
 }

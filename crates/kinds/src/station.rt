@@ -20,7 +20,9 @@ use fields::rule::FieldType::Numeric;
 use fields::rule::Need::Mandatory;
 use fields::rule::Need::Optional;
 use fields::text::Text;
+use fields::text::TextDisplay;
 use fields::text::TextOrd;
+use std::fmt;
 
 // What a buyer is told of a station.
 #[derive(Clone, Copy)]
@@ -218,5 +220,18 @@ pub impl Kind for Station as StationKind {
             },
             zone: if amended.zone { newer.zone } else { older.zone },
         }
+    }
+}
+
+// The told fields in field order, as `find` answers them.
+pub impl fmt::Display for StationTold as StationToldDisplay {
+    fn fmt<W: fmt::Write>(&self, f: &mut fmt::Formatter<W>) -> fmt::Result {
+        let StationTold {
+            name,
+            designation,
+            route_description,
+            zone,
+        } = *self;
+        write!(f, "{name}|{designation}|{route_description}|{zone}")
     }
 }
