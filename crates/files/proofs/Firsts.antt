@@ -8,7 +8,7 @@ use Rattle.std.specs.declared.option.Option.the-variants.{Some, None}
 use Rattle.std.proofs.shelf.Tests.{cases-order}
 use Rattle.files.specs.First.{at-index, first, or-else}
 
-some-none : {A : Type 0} (x : A) → Some x ≡ None → ⊥
+pub some-none : {A : Type 0} (x : A) → Some x ≡ None → ⊥
 some-none x e = let z : _≡_ {A = ℕ} 0 1 = cc in omega arith
 
 module _ {A : Type 0} (f : ℕ → Option A) where
@@ -34,5 +34,6 @@ module _ {A : Type 0} (f : ℕ → Option A) where
       here z =
           (λ i. or-else (first-none n (λ j q. h j (subst (λ w. j < w) (sym z) q)) i) (at-index n (f n)))
           ∙ (ap (λ w. at-index w (f w)) (sym z) ∙ ap (at-index k) e)
+
       go : (k < n → f k ≡ Some x → ((j : ℕ) → j < k → f j ≡ None) → first f n ≡ Some (k, x)) → or-else (first f n) (at-index n (f n)) ≡ Some (k, x)
       go ih = ⊎-elim here (⊎-elim (λ z. ap (λ o. or-else o (at-index n (f n))) (ih z e h)) (λ z. absurd (omega arith))) (cases-order k n)

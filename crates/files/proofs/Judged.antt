@@ -17,8 +17,8 @@ abbrev pub total-of : {K : Type 0} (o : Order K) {P : K → K → Ordering → T
 total-of o says = record { cmp = o .cmp; says = says; flip = o .flip; trans = o .trans; alike = o .alike }
 
 pub judged-by : {R T N K : Type 0} (m : Meaning R T N K) (before : Option K) (key after : K) (r : R) (n : ℕ) (b : Bool) →
-  before ≡ Some key → after ≡ m .order r → n ≡ m .record-number (m .number r) → b ≡ isGt (m .file-order .cmp key after) →
-  judged m before (Ok r) ≡ cond b (Some (Later n)) None
+    before ≡ Some key → after ≡ m .order r → n ≡ m .record-number (m .number r) → b ≡ isGt (m .file-order .cmp key after) →
+    judged m before (Ok r) ≡ cond b (Some (Later n)) None
 judged-by m before key after r n b p q u v =
     ap (λ w. judged m w (Ok r)) p
     ∙ (λ i. cond (sym (v ∙ ap (λ w. isGt (m .file-order .cmp key w)) q) i) (Some (Later (sym u i))) None)

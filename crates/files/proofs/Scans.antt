@@ -30,12 +30,13 @@ module _ {R T N K : Type 0} (m : Meaning R T N K) (s : ℕ) (row : ℕ → List 
   light-some i before e b h = ap (λ k. judged m k (m .reads s (row i))) (sym b) ∙ h
 
   pub noted-more : (i : ℕ) (ps qs : List (Place N)) (n : N) → i < length ps → n ≡ m .number (record-at m s row i) → qs ≡ set ps i (record { number = n; row = i }) →
-    Noted m s row i ps → Noted m s row (i + 1) qs
+      Noted m s row i ps → Noted m s row (i + 1) qs
   noted-more i ps qs n l e put noted k d h = ap (λ x. getD x k d) put ∙ ⊎-elim here (⊎-elim below (λ z. absurd (omega arith))) (cases-order k i)
     where
       here : k ≡ i → getD (set ps i (record { number = n; row = i })) k d ≡ record { number = m .number (record-at m s row k); row = k }
       here z =
           subst (λ w. getD (set ps i (record { number = n; row = i })) w d ≡ record { number = m .number (record-at m s row w); row = w }) (sym z)
           (getD-set-same ps i (record { number = n; row = i }) d l ∙ (λ j. record { number = e j; row = i }))
+
       below : k < i → getD (set ps i (record { number = n; row = i })) k d ≡ record { number = m .number (record-at m s row k); row = k }
       below z = getD-set-other ps i k (record { number = n; row = i }) d (omega arith) ∙ noted k d z

@@ -11,9 +11,11 @@ use Rattle.std.specs.declared.option.Option.{Option}
 use Rattle.std.specs.declared.option.Option.the-variants.{Some, None}
 use Rattle.std.specs.declared.result.Result.{Result}
 use Rattle.std.specs.declared.result.Result.the-variants.{Ok, Err}
+use Rattle.std.specs.shelf.Lists.{Has}
 use Rattle.fields.specs.declared.fault.FieldFault.{FieldFault}
 use Rattle.indexes.specs.declared.Place.{Place}
 use Rattle.kinds.specs.Meaning.{Meaning}
+use Rattle.files.specs.declared.fault.FileFault.{FileFault}
 use Rattle.files.specs.declared.fault.RowFault.{RowFault}
 use Rattle.files.specs.declared.fault.RowFault.the-variants.{Field, Later, Twice}
 use Rattle.files.specs.First.{first, or-else}
@@ -36,6 +38,11 @@ pub record Read {R T N K : Type 0} (m : Meaning R T N K) (s : ℕ) (row : List �
 abbrev pub record-or : {R : Type 0} → R → Result R FieldFault → R
 record-or d (Ok r) = r
 record-or d (Err e) = d
+
+-- what reading a file answers, with the row counted from 1
+abbrev pub told : Option (ℕ × RowFault) → Result (Unit {0}) FileFault
+told None = Ok tt
+told (Some p) = Err (record { row = p .0 + 1; fault = p .1 })
 
 -- m is what the kind means, s the head's supplier, and row k the bytes of row k
 module _ {R T N K : Type 0} (m : Meaning R T N K) (s : ℕ) (row : ℕ → List ℕ) where
@@ -93,3 +100,8 @@ module _ {R T N K : Type 0} (m : Meaning R T N K) (s : ℕ) (row : ℕ → List 
   -- the places of the first f rows
   abbrev pub Noted : ℕ → List (Place N) → Type 0
   Noted f ps = (k : ℕ) (d : Place N) → k < f → getD ps k d ≡ record { number = m .number (record-at k); row = k }
+
+  -- exactly the places of the first n rows, in whatever order
+  pub record Indexed (n : ℕ) (ps : List (Place N)) : Type 0 where
+    pub all : (k : ℕ) → k < n → Has ps (record { number = m .number (record-at k); row = k })
+    pub only : (p : Place N) → Has ps p → (k : ℕ) × (k < n) × (p ≡ record { number = m .number (record-at k); row = k })

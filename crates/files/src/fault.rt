@@ -4,8 +4,8 @@ ghost use Rattle.files.specs.declared.fault.RowFault.the-variants.{Field};
 ghost use mathlib.Core.Path.{_≡_};
 use fields::fault::FieldFault;
 use fields::fault::FieldFaultDebug;
-use fields::fault::FieldFaultPartialEq;
 use fields::fault::FieldFaultEq;
+use fields::fault::FieldFaultPartialEq;
 use fields::parts::Layer;
 use fields::parts::Parts;
 
@@ -41,9 +41,27 @@ impl FileFault {
     {
         let row = self.row;
         match self.fault {
-            RowFault::Field(fault) => Parts { letter, row, ..fault.parts() },
-            RowFault::Later(record) => Parts { number: 7, layer: Layer::Row, letter, row, field: 0, record },
-            RowFault::Twice(record) => Parts { number: 8, layer: Layer::Row, letter, row, field: 0, record },
+            RowFault::Field(fault) => Parts {
+                letter,
+                row,
+                ..fault.parts()
+            },
+            RowFault::Later(record) => Parts {
+                number: 7,
+                layer: Layer::Row,
+                letter,
+                row,
+                field: 0,
+                record,
+            },
+            RowFault::Twice(record) => Parts {
+                number: 8,
+                layer: Layer::Row,
+                letter,
+                row,
+                field: 0,
+                record,
+            },
         }
     }
 

@@ -1,3 +1,3 @@
 pub mod fault;
-pub mod rows;
 pub mod reading;
+pub mod rows;

@@ -1,18 +1,27 @@
 // Reading a file: every row, in order, up to the first fault.
-ghost use Prim.Native.Nat.{_<_, _≤_};
-ghost use Rattle.files.specs.Files.{Noted, Read, Scanned, judged};
+ghost use Prim.Native.Nat.{min, _+_, _<_, _≤_};
+ghost use Rattle.indexes.specs.Places.{Sorted-places};
+ghost use Rattle.std.specs.Keys.{Total};
+ghost use mathlib.Core.Bool.{true};
+ghost use Rattle.files.specs.Files.{Indexed, Noted, Read, Scanned, file-fault, judged, number-at, told};
+ghost use Rattle.files.specs.declared.fault.RowFault.the-variants.{Twice};
 ghost use Rattle.files.specs.Rows.{row-in};
-ghost use Rattle.std.specs.Results.{Cases};
+ghost use Rattle.std.specs.Results.{Cases, isOk};
 ghost use Rattle.std.specs.declared.option.Option.the-variants.{None, Some};
 ghost use Rattle.std.specs.declared.result.Result.the-variants.{Ok};
 ghost use lib.ListN.{length, set};
 ghost use mathlib.Core.Path.{_≡_};
+use crate::fault::FileFault;
 use crate::fault::RowFault;
 use crate::fault::RowFaultFromField;
 use crate::rows::Rows;
 use indexes::Place;
+use indexes::first_repeat;
 use kinds::kind::Kind;
 use kinds::order::comes_later;
+
+// A file has at most so many rows.
+pub const MOST_ROWS: usize = 4096;
 
 // Whether the row before, of this key, comes later than the one after it.
 fn check_order<K: Kind>(before: &Option<K::Key>, after: &K) -> Result<(), RowFault>
@@ -27,7 +36,12 @@ fn check_order<K: Kind>(before: &Option<K::Key>, after: &K) -> Result<(), RowFau
 }
 
 // Reads row i into the record, after a row of this key; the fault of its first field, or that the row before comes later.
-fn read_row<K: Kind>(into: &mut K, rows: &Rows<'_>, i: usize, before: &Option<K::Key>) -> Result<(), RowFault>
+fn read_row<K: Kind>(
+    into: &mut K,
+    rows: &Rows<'_>,
+    i: usize,
+    before: &Option<K::Key>,
+) -> Result<(), RowFault>
     ensures { λ r. ⌜ Cases r (λ _. Read (K·Kind .meaning) (now (rows .entry) .supplier) (row-in (now (rows .entry)) i) (now (before .entry)) (now (into .exit))) (λ e. judged (K·Kind .meaning) (now (before .entry)) (K·Kind .meaning .reads (now (rows .entry) .supplier) (row-in (now (rows .entry)) i)) ≡ Some e) ⌝ }
 {
     into.read(rows.supplier, rows.row(i))?;
@@ -55,7 +69,52 @@ fn scan<K: Kind>(rows: &Rows<'_>, places: &mut [Place<K::Number>]) -> (usize, Op
             return (i, Some(fault));
         }
         before = Some(record.order());
-        put(places, i, Place { number: record.number(), row: i as u32 });
+        put(
+            places,
+            i,
+            Place {
+                number: record.number(),
+                row: i as u32,
+            },
+        );
     }
     (places.len(), None)
+}
+
+// The fault of a row whose number an earlier row has.
+fn twice<K: Kind>(rows: &Rows<'_>, row: u32) -> FileFault
+    requires { ⌜ row < 4096 ⌝ }
+    ensures { λ r. ⌜ r ≡ record { row = row + 1; fault = Twice (number-at (K·Kind .meaning) (now (rows .entry) .supplier) (row-in (now (rows .entry))) row) } ⌝ }
+{
+    let mut record = K::blank();
+    let _ = record.read(rows.supplier, rows.row(row as usize));
+    FileFault {
+        row: row + 1,
+        fault: RowFault::Twice(K::record_number(record.number())),
+    }
+}
+
+// Reads as many rows as there is room for places, and answers the first fault.
+fn read_all<K: Kind>(rows: &Rows<'_>, places: &mut [Place<K::Number>]) -> Result<(), FileFault>
+    requires { ⌜ length (now places) ≤ 4096 ⌝ }
+    ensures first { λ r. ⌜ r ≡ told (file-fault (K·Kind .meaning) (now (rows .entry) .supplier) (row-in (now (rows .entry))) (length (now (places .entry)))) ⌝ }
+    ensures index { λ r. ⌜ (isOk r ≡ true → Indexed (K·Kind .meaning) (now (rows .entry) .supplier) (row-in (now (rows .entry))) (length (now (places .entry))) (now (places .exit)) × ((o : Total (Number·Ord .orders)) → Sorted-places o (now (places .exit)))) ⌝ }
+{
+    let (read, fault) = scan::<K>(rows, places);
+    if let Some(row) = first_repeat(&mut places[0..read]) {
+        return Err(twice::<K>(rows, row));
+    }
+    match fault {
+        None => Ok(()),
+        Some(fault) => Err(FileFault { row: read as u32 + 1, fault }),
+    }
+}
+
+// Reads as many rows as there is room for places, at most 4096, and answers the first fault. Where there is none the
+// places are those of the rows' numbers, sorted.
+pub fn read_file<K: Kind>(rows: &Rows<'_>, places: &mut [Place<K::Number>]) -> Result<(), FileFault>
+    ensures first { λ r. ⌜ r ≡ told (file-fault (K·Kind .meaning) (now (rows .entry) .supplier) (row-in (now (rows .entry))) (min (length (now (places .entry))) 4096)) ⌝ }
+{
+    let n = places.len().min(MOST_ROWS);
+    read_all::<K>(rows, &mut places[0..n])
 }

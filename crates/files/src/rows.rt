@@ -6,7 +6,6 @@ ghost use mathlib.Core.Path.{_≡_};
 pub struct Rows<'a> {
     pub bytes: &'a [u8],
     pub length: usize,
-    pub count: usize,
     // the head's supplier
     pub supplier: u32,
 }

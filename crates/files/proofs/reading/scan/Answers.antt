@@ -18,9 +18,9 @@ returns-in-Err g c =
       scanned = record {
         most = omega arith;
         light = c .loop-i .inv .1;
-        next = (c .loop-i-test .taken, light-some m (rows .supplier) (row-in rows) i (c .loop-i .before) (c .in-Err .fault) (c .loop-i .inv .0) (c .in-Err .ensures tt))
+        next = (c .loop-i-test .taken, light-some m (rows .supplier) (row-in rows) i (c .loop-i .before) (c .in-Err .fault) (c .loop-i .inv .0) (c .in-Err .ensures tt));
       };
-      noted = c .loop-i .inv .2
+      noted = c .loop-i .inv .2;
     }
 
 pub loop-i-again : need.loop-i-again
@@ -33,10 +33,11 @@ loop-i-again g c =
     let r = c .read-row .last .into in
     let read : Read m s (row i) (c .loop-i .before) r = c .in-rest .ensures tt in
     let long : i < length (c .loop-i .places) = omega arith in
-    let number = c .number .ensures ∙ ap (m .number) (sym (record-is m s row i r (read .reads))) in
-    ( ap Some (c .order .ensures) ∙ key-more m s row i r (read .reads)
-    , below-more (λ k. light-fault m s row k ≡ None) i (c .loop-i .inv .1) (light-none m s row i (c .loop-i .before) r (c .loop-i .inv .0) read)
-    , noted-more m s row i (c .loop-i .places) (c .put .last .places) (c .number .result) long number (c .put .ensures) (c .loop-i .inv .2) )
+    let number = c .number .ensures ∙ ap (m .number) (sym (record-is m s row i r (read .reads))) in (
+      ap Some (c .order .ensures) ∙ key-more m s row i r (read .reads),
+      below-more (λ k. light-fault m s row k ≡ None) i (c .loop-i .inv .1) (light-none m s row i (c .loop-i .before) r (c .loop-i .inv .0) read),
+      noted-more m s row i (c .loop-i .places) (c .put .last .places) (c .number .result) long number (c .put .ensures) (c .loop-i .inv .2),
+    )
 
 pub loop-i-holds : need.loop-i-holds
 loop-i-holds g c = (refl, λ k l. absurd (omega arith), λ k d l. absurd (omega arith))
@@ -48,7 +49,7 @@ returns g c =
       scanned = record {
         most = omega arith;
         light = λ k l. c .loop-i .inv .1 k (omega arith);
-        next = omega arith
+        next = omega arith;
       };
-      noted = λ k d l. c .loop-i .inv .2 k d (omega arith)
+      noted = λ k d l. c .loop-i .inv .2 k d (omega arith);
     }

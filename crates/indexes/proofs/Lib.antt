@@ -1,0 +1,5 @@
+pub mod Ascending
+pub mod Found
+pub mod Leasts
+pub mod Neighbours
+pub mod Repeated
