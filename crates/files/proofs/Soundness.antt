@@ -5,7 +5,7 @@ use mathlib.Core.List.{List}
 use mathlib.Core.Logic.{⊎-elim}
 use Prim.Native.Nat.{ℕ, zero, suc, _<_, _≤_}
 use native.Mathlib.Omega.{arith}
-use Rattle.std.specs.Orderings.{isEq, isGt, reversed}
+use Rattle.std.specs.Orderings.{Decides, isEq, isGt, reversed}
 use Rattle.std.specs.Results.{isOk}
 use Rattle.std.specs.declared.cmp.Ordering.{Ordering}
 use Rattle.std.specs.declared.cmp.Ordering.the-variants.{Less, Equal, Greater}
@@ -16,9 +16,10 @@ use Rattle.std.specs.declared.result.Result.the-variants.{Ok, Err}
 use Rattle.std.proofs.shelf.Tests.{cases-order, false≢true, or-from, or-parts, true≢false}
 use Rattle.fields.specs.declared.fault.FieldFault.{FieldFault}
 use Rattle.kinds.specs.Meaning.{Meaning, Order}
+use Rattle.files.specs.declared.fault.FileFault.{FileFault}
 use Rattle.files.specs.declared.fault.RowFault.{RowFault}
 use Rattle.files.specs.declared.fault.RowFault.the-variants.{Later, Twice}
-use Rattle.files.specs.Files.{Sound-rows, comes-later, file-fault, judged, key-before, light-fault, number-at, number-fault, record-at, record-or, row-fault, same-number, stands-below}
+use Rattle.files.specs.Files.{Sound-rows, comes-later, file-fault, judged, key-before, light-fault, number-at, number-fault, record-at, record-or, row-fault, same-number, stands-below, told}
 use Rattle.files.specs.First.{or-else}
 use Rattle.files.proofs.Firsts.{first-none, none-first, some-none}
 
@@ -133,3 +134,13 @@ module _ {R T N K : Type 0} (m : Meaning R T N K) (s : ℕ) (row : ℕ → List 
       (λ i. or-else
       (light-when k (sound .read k l) (λ j e. sound .ordered j k (subst (λ w. j < w) (sym e) (omega arith)) l) i)
       (cond (below-when k k (λ j p. differ j k (sound .single j k p l)) i) (Some (Twice (number-at m s row k))) None)))
+
+  -- what reading n rows owes besides the first fault
+  pub told-sound : (n : ℕ) (r : Result (Unit {0}) FileFault) → r ≡ told (file-fault m s row n) → Decides (isOk r) (Sound-rows m s row n)
+  told-sound n r e = go (file-fault m s row n) refl e
+    where
+      go : (o : Option (ℕ × RowFault)) → file-fault m s row n ≡ o → r ≡ told o → Decides (isOk r) (Sound-rows m s row n)
+      go None p e = (λ _. sound-when-none n p, λ _. ap isOk e)
+      go (Some x) p e =
+          ( λ ok. absurd (false≢true (sym (ap isOk e) ∙ ok))
+          , λ sound. absurd (some-none x (sym p ∙ none-when-sound n sound)) )

@@ -3,9 +3,10 @@ ghost use Prim.Native.Nat.{min, _+_, _<_, _≤_};
 ghost use Rattle.indexes.specs.Places.{Sorted-places};
 ghost use Rattle.std.specs.Keys.{Total};
 ghost use mathlib.Core.Bool.{true};
-ghost use Rattle.files.specs.Files.{Indexed, Noted, Read, Scanned, file-fault, judged, number-at, told};
+ghost use Rattle.files.specs.Files.{Indexed, Noted, Read, Scanned, Sound-rows, file-fault, judged, number-at, told};
 ghost use Rattle.files.specs.declared.fault.RowFault.the-variants.{Twice};
 ghost use Rattle.files.specs.Rows.{row-in};
+ghost use Rattle.std.specs.Orderings.{Decides};
 ghost use Rattle.std.specs.Results.{Cases, isOk};
 ghost use Rattle.std.specs.declared.option.Option.the-variants.{None, Some};
 ghost use Rattle.std.specs.declared.result.Result.the-variants.{Ok};
@@ -114,6 +115,8 @@ fn read_all<K: Kind>(rows: &Rows<'_>, places: &mut [Place<K::Number>]) -> Result
 // places are those of the rows' numbers, sorted.
 pub fn read_file<K: Kind>(rows: &Rows<'_>, places: &mut [Place<K::Number>]) -> Result<(), FileFault>
     ensures first { λ r. ⌜ r ≡ told (file-fault (K·Kind .meaning) (now (rows .entry) .supplier) (row-in (now (rows .entry))) (min (length (now (places .entry))) 4096)) ⌝ }
+    ensures sound { λ r. ⌜ Decides (isOk r) (Sound-rows (K·Kind .meaning) (now (rows .entry) .supplier) (row-in (now (rows .entry))) (min (length (now (places .entry))) 4096)) ⌝ }
+    ensures index { λ r. ⌜ (isOk r ≡ true → length (now (places .entry)) ≤ 4096 → Indexed (K·Kind .meaning) (now (rows .entry) .supplier) (row-in (now (rows .entry))) (length (now (places .entry))) (now (places .exit)) × ((o : Total (Number·Ord .orders)) → Sorted-places o (now (places .exit)))) ⌝ }
 {
     let n = places.len().min(MOST_ROWS);
     read_all::<K>(rows, &mut places[0..n])
