@@ -14,7 +14,7 @@ pub fn overwrite(row: &mut [u8], column: usize, text: &[u8]) {
 
 // The fault of a row of supplier 0081.
 pub fn fault_of<K: Kind + Drop>(row: &[u8]) -> Option<FieldFault> {
-    let mut record = K::blank();
+    let mut record = K::values(0, &[]);
     match record.read(81, row) {
         Ok(()) => None,
         Err(fault) => Some(fault),
@@ -23,7 +23,7 @@ pub fn fault_of<K: Kind + Drop>(row: &[u8]) -> Option<FieldFault> {
 
 // The record in a row, or a blank one where the row is at fault.
 pub fn record_of<K: Kind + Drop>(row: &[u8]) -> K {
-    let mut record = K::blank();
+    let mut record = K::values(0, &[]);
     let _ = record.read(81, row);
     record
 }

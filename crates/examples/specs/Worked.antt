@@ -13,7 +13,7 @@ use Rattle.fields.specs.Calendar.{date}
 use Rattle.kinds.specs.declared.fare_table.FareTable.{FareTable}
 use Rattle.kinds.specs.declared.station.Station.{Station}
 use Rattle.kinds.specs.FareTable.{fare-table-meaning}
-use Rattle.kinds.specs.Meaning.{compares}
+use Rattle.kinds.specs.Meaning.{compares, reads}
 use Rattle.kinds.specs.Station.{station-in, station-meaning, told-columns}
 use Rattle.deliveries.specs.declared.fault.HeadFault.the-variants.{BrokenField}
 use Rattle.deliveries.specs.declared.head.Head.{Head}
@@ -45,11 +45,11 @@ pub record Examples : Type 0 where
   pub full-century : date (codes "21000229") ≡ None
   pub month-13 : date (codes "20261301") ≡ None
   -- a fare table's number is from 1000 on
-  pub table-0999 : fare-table-meaning .reads 81 (fare-table-row (codes "0999") (codes "09990081")) ≡ Err (NotAllowed 2)
-  pub table-1000 : isOk (fare-table-meaning .reads 81 (fare-table-row (codes "1000") (codes "10000081"))) ≡ true
+  pub table-0999 : reads fare-table-meaning 81 (fare-table-row (codes "0999") (codes "09990081")) ≡ Err (NotAllowed 2)
+  pub table-1000 : isOk (reads fare-table-meaning 81 (fare-table-row (codes "1000") (codes "10000081"))) ≡ true
   -- an amendment flag 3 in a new row, and in one that is not new
-  pub flag-3-in-new : station-meaning .reads 81 (station-row (codes "1") (codes "3") (codes "    0")) ≡ Err (NotAllowed 6)
-  pub flag-3 : isOk (station-meaning .reads 81 (station-row (codes "0") (codes "3") (codes "    0"))) ≡ true
+  pub flag-3-in-new : reads station-meaning 81 (station-row (codes "1") (codes "3") (codes "    0")) ≡ Err (NotAllowed 6)
+  pub flag-3 : isOk (reads station-meaning 81 (station-row (codes "0") (codes "3") (codes "    0"))) ≡ true
   -- a zone that goes from blank to 0000
   pub zone-flag-0 :
       compares station-meaning (told-columns (station-row (codes "1") (codes "0") (codes "     ")))

@@ -41,7 +41,7 @@ module _ {R T N K : Type 0} (m : Meaning R T N K) (s : ℕ) (row : ℕ → List 
   some-below k (suc n) e = go (stands-below m s row k n) refl (some-below k n) e
     where
       go : (b : Bool) → stands-below m s row k n ≡ b → (stands-below m s row k n ≡ true → (j : ℕ) × (j < n) × (same-number m s row j k ≡ true)) →
-        (b || same-number m s row n k) ≡ true → (j : ℕ) × (j < suc n) × (same-number m s row j k ≡ true)
+          (b || same-number m s row n k) ≡ true → (j : ℕ) × (j < suc n) × (same-number m s row j k ≡ true)
       go true q ih e = let h = ih q in (h .0, omega (arith, h .1), h .2)
       go false q ih e = (n, omega arith, e)
 
@@ -74,7 +74,7 @@ module _ {R T N K : Type 0} (m : Meaning R T N K) (s : ℕ) (row : ℕ → List 
     indexed qs same =
         record {
           all = λ k l. has-shuffled (take (f - 0) ps) qs _ same (front-has k l);
-          only = λ p h. has-front p (has-shuffled qs (take (f - 0) ps) p (shuffled-sym (take (f - 0) ps) qs same) h)
+          only = λ p h. has-front p (has-shuffled qs (take (f - 0) ps) p (shuffled-sym (take (f - 0) ps) qs same) h);
         }
 
     module _ {P : N → N → Ordering → Type 0} (o : Total P) (like : (x y : N) → o .cmp x y ≡ m .numbers .cmp x y) where
@@ -85,19 +85,21 @@ module _ {R T N K : Type 0} (m : Meaning R T N K) (s : ℕ) (row : ℕ → List 
           let at-k : b .0 ≡ k = sym (ap (λ p. p .row) (b .2)) ∙ h .5 in
           let below : a .0 < b .0 = subst (λ w. w < b .0) (ap (λ p. p .row) (a .2)) (subst (λ w. h .0 .row < w) (ap (λ p. p .row) (b .2)) (h .4 .1)) in
           let same : same-number m s row (a .0) (b .0) ≡ true =
-            ap isEq (sym (like _ _) ∙ ((λ i. o .cmp (sym (ap (λ p. p .number) (a .2)) i) (sym (ap (λ p. p .number) (b .2)) i)) ∙ h .4 .0)) in
-          ( subst (λ w. w < f) at-k (b .1)
-          , subst (λ w. stands-below m s row w w ≡ true) at-k (below-some (b .0) (b .0) (a .0) below same) )
+          ap isEq (sym (like _ _) ∙ ((λ i. o .cmp (sym (ap (λ p. p .number) (a .2)) i) (sym (ap (λ p. p .number) (b .2)) i)) ∙ h .4 .0)) in (
+            subst (λ w. w < f) at-k (b .1),
+            subst (λ w. stands-below m s row w w ≡ true) at-k (below-some (b .0) (b .0) (a .0) below same),
+          )
 
       pub repeats-back : (k : ℕ) → k < f → stands-below m s row k k ≡ true → Repeats o (take (f - 0) ps) k
       repeats-back k l e =
-          let j = some-below k k e in
-          ( record { number = m .number (record-at m s row (j .0)); row = j .0 }
-          , record { number = m .number (record-at m s row k); row = k }
-          , front-has (j .0) (omega (arith, j .1))
-          , front-has k l
-          , (like _ _ ∙ is-equal _ (j .2), j .1)
-          , refl )
+          let j = some-below k k e in (
+            record { number = m .number (record-at m s row (j .0)); row = j .0 },
+            record { number = m .number (record-at m s row k); row = k },
+            front-has (j .0) (omega (arith, j .1)),
+            front-has k l,
+            (like _ _ ∙ is-equal _ (j .2), j .1),
+            refl,
+          )
 
       module _ (n : ℕ) (next : Option RowFault) (scanned : Scanned m s row n f next) where
         not-twice : ((j : ℕ) → Repeats o (take (f - 0) ps) j → ⊥) → (k : ℕ) → k < f → row-fault m s row k ≡ None

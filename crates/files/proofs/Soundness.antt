@@ -15,13 +15,14 @@ use Rattle.std.specs.declared.result.Result.{Result}
 use Rattle.std.specs.declared.result.Result.the-variants.{Ok, Err}
 use Rattle.std.proofs.shelf.Tests.{cases-order, false≢true, or-from, or-parts, true≢false}
 use Rattle.fields.specs.declared.fault.FieldFault.{FieldFault}
-use Rattle.kinds.specs.Meaning.{Meaning, Order}
+use Rattle.kinds.specs.Meaning.{Meaning, Order, reads}
 use Rattle.files.specs.declared.fault.FileFault.{FileFault}
 use Rattle.files.specs.declared.fault.RowFault.{RowFault}
 use Rattle.files.specs.declared.fault.RowFault.the-variants.{Later, Twice}
-use Rattle.files.specs.Files.{Sound-rows, comes-later, file-fault, judged, key-before, light-fault, number-at, number-fault, record-at, record-or, row-fault, same-number, stands-below, told}
+use Rattle.files.specs.Files.{Sound-rows, comes-later, file-fault, judged, key-before, light-fault, number-at, number-fault, record-at, row-fault, same-number, stands-below, told}
 use Rattle.files.specs.First.{or-else}
 use Rattle.files.proofs.Firsts.{first-none, none-first, some-none}
+use Rattle.files.proofs.Scans.{record-is}
 
 -- not later, and not later again
 pub not-later : {K : Type 0} (o : Order K) (x y z : K) → isGt (o .cmp x y) ≡ false → isGt (o .cmp y z) ≡ false → isGt (o .cmp x z) ≡ false
@@ -43,32 +44,32 @@ or-none None b e = (refl, e)
 
 module _ {R T N K : Type 0} (m : Meaning R T N K) (s : ℕ) (row : ℕ → List ℕ) where
   -- a row that is read and not before its neighbour has no light fault, and the other way round
-  light-when : (k : ℕ) → isOk (m .reads s (row k)) ≡ true → ((j : ℕ) → k ≡ suc j → comes-later m s row j k ≡ false) → light-fault m s row k ≡ None
-  light-when k ok after = go k (m .reads s (row k)) refl ok after
+  light-when : (k : ℕ) → isOk (reads m s (row k)) ≡ true → ((j : ℕ) → k ≡ suc j → comes-later m s row j k ≡ false) → light-fault m s row k ≡ None
+  light-when k ok after = go k (reads m s (row k)) refl ok after
     where
-      go : (k : ℕ) (r : Result R FieldFault) → m .reads s (row k) ≡ r → isOk r ≡ true → ((j : ℕ) → k ≡ suc j → comes-later m s row j k ≡ false) → judged m (key-before m s row k) r ≡ None
+      go : (k : ℕ) (r : Result R FieldFault) → reads m s (row k) ≡ r → isOk r ≡ true → ((j : ℕ) → k ≡ suc j → comes-later m s row j k ≡ false) → judged m (key-before m s row k) r ≡ None
       go k (Err e) p ok after = absurd (false≢true ok)
       go zero (Ok r) p ok after = refl
       go (suc j) (Ok r) p ok after =
           ap (λ b. cond b (Some (Later (m .record-number (m .number r)))) None)
-          (ap (λ x. isGt (m .file-order .cmp (m .order (record-at m s row j)) (m .order (record-or (m .blank) x)))) (sym p) ∙ after j refl)
+          (ap (λ x. isGt (m .file-order .cmp (m .order (record-at m s row j)) (m .order x))) (sym (record-is m s row (suc j) r p)) ∙ after j refl)
 
-  light-reads : (k : ℕ) → light-fault m s row k ≡ None → isOk (m .reads s (row k)) ≡ true
-  light-reads k e = go (m .reads s (row k)) e
+  light-reads : (k : ℕ) → light-fault m s row k ≡ None → isOk (reads m s (row k)) ≡ true
+  light-reads k e = go (reads m s (row k)) e
     where
       go : (r : Result R FieldFault) → judged m (key-before m s row k) r ≡ None → isOk r ≡ true
       go (Ok r) e = refl
       go (Err x) e = absurd (some-none _ e)
 
   light-order : (k : ℕ) → light-fault m s row (suc k) ≡ None → comes-later m s row k (suc k) ≡ false
-  light-order k e = go (m .reads s (row (suc k))) refl e
+  light-order k e = go (reads m s (row (suc k))) refl e
     where
       off : (b : Bool) (x : RowFault) → cond b (Some x) None ≡ None → b ≡ false
       off true x e = absurd (some-none x e)
       off false x e = refl
 
-      go : (r : Result R FieldFault) → m .reads s (row (suc k)) ≡ r → judged m (key-before m s row (suc k)) r ≡ None → comes-later m s row k (suc k) ≡ false
-      go (Ok r) p e = ap (λ x. isGt (m .file-order .cmp (m .order (record-at m s row k)) (m .order (record-or (m .blank) x)))) p ∙ off _ _ e
+      go : (r : Result R FieldFault) → reads m s (row (suc k)) ≡ r → judged m (key-before m s row (suc k)) r ≡ None → comes-later m s row k (suc k) ≡ false
+      go (Ok r) p e = ap (λ x. isGt (m .file-order .cmp (m .order (record-at m s row k)) (m .order x))) (record-is m s row (suc k) r p) ∙ off _ _ e
       go (Err x) p e = absurd (some-none _ e)
 
   -- none of the first n rows has the number of row k
@@ -141,6 +142,7 @@ module _ {R T N K : Type 0} (m : Meaning R T N K) (s : ℕ) (row : ℕ → List 
     where
       go : (o : Option (ℕ × RowFault)) → file-fault m s row n ≡ o → r ≡ told o → Decides (isOk r) (Sound-rows m s row n)
       go None p e = (λ _. sound-when-none n p, λ _. ap isOk e)
-      go (Some x) p e =
-          ( λ ok. absurd (false≢true (sym (ap isOk e) ∙ ok))
-          , λ sound. absurd (some-none x (sym p ∙ none-when-sound n sound)) )
+      go (Some x) p e = (
+        λ ok. absurd (false≢true (sym (ap isOk e) ∙ ok)),
+        λ sound. absurd (some-none x (sym p ∙ none-when-sound n sound)),
+      )

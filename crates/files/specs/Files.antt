@@ -14,7 +14,7 @@ use Rattle.std.specs.declared.result.Result.the-variants.{Ok, Err}
 use Rattle.std.specs.shelf.Lists.{Has}
 use Rattle.fields.specs.declared.fault.FieldFault.{FieldFault}
 use Rattle.indexes.specs.declared.Place.{Place}
-use Rattle.kinds.specs.Meaning.{Meaning}
+use Rattle.kinds.specs.Meaning.{Meaning, reads}
 use Rattle.files.specs.declared.fault.FileFault.{FileFault}
 use Rattle.files.specs.declared.fault.RowFault.{RowFault}
 use Rattle.files.specs.declared.fault.RowFault.the-variants.{Field, Later, Twice}
@@ -32,12 +32,8 @@ judged m (Some key) (Ok r) = cond (isGt (m .file-order .cmp key (m .order r))) (
 
 -- a row is read as r, and does not come before the row of the key before it
 pub record Read {R T N K : Type 0} (m : Meaning R T N K) (s : ℕ) (row : List ℕ) (before : Option K) (r : R) : Type 0 where
-  pub reads : m .reads s row ≡ Ok r
+  pub is-read : reads m s row ≡ Ok r
   pub ordered : judged m before (Ok r) ≡ None
-
-abbrev pub record-or : {R : Type 0} → R → Result R FieldFault → R
-record-or d (Ok r) = r
-record-or d (Err e) = d
 
 -- what reading a file answers, with the row counted from 1
 abbrev pub told : Option (ℕ × RowFault) → Result (Unit {0}) FileFault
@@ -46,9 +42,9 @@ told (Some p) = Err (record { row = p .0 + 1; fault = p .1 })
 
 -- m is what the kind means, s the head's supplier, and row k the bytes of row k
 module _ {R T N K : Type 0} (m : Meaning R T N K) (s : ℕ) (row : ℕ → List ℕ) where
-  -- the record of a row that is read
+  -- the record in a row
   abbrev pub record-at : ℕ → R
-  record-at k = record-or (m .blank) (m .reads s (row k))
+  record-at k = m .values s (row k)
 
   abbrev pub number-at : ℕ → ℕ
   number-at k = m .record-number (m .number (record-at k))
@@ -76,7 +72,7 @@ module _ {R T N K : Type 0} (m : Meaning R T N K) (s : ℕ) (row : ℕ → List 
 
   -- 4, 5 or 6, then 7
   abbrev pub light-fault : ℕ → Option RowFault
-  light-fault k = judged m (key-before k) (m .reads s (row k))
+  light-fault k = judged m (key-before k) (reads m s (row k))
 
   abbrev pub row-fault : ℕ → Option RowFault
   row-fault k = or-else (light-fault k) (number-fault k)
@@ -87,7 +83,7 @@ module _ {R T N K : Type 0} (m : Meaning R T N K) (s : ℕ) (row : ℕ → List 
 
   -- n rows that keep the rules, without their order
   pub record Sound-rows (n : ℕ) : Type 0 where
-    pub read : (k : ℕ) → k < n → isOk (m .reads s (row k)) ≡ true
+    pub read : (k : ℕ) → k < n → isOk (reads m s (row k)) ≡ true
     pub ordered : (j k : ℕ) → j < k → k < n → comes-later j k ≡ false
     pub single : (j k : ℕ) → j < k → k < n → m .number (record-at j) ≡ m .number (record-at k) → ⊥
 

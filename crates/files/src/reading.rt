@@ -5,6 +5,7 @@ ghost use Rattle.std.specs.Keys.{Total};
 ghost use mathlib.Core.Bool.{true};
 ghost use Rattle.files.specs.Files.{Indexed, Noted, Read, Scanned, Sound-rows, file-fault, judged, number-at, told};
 ghost use Rattle.files.specs.declared.fault.RowFault.the-variants.{Twice};
+ghost use Rattle.kinds.specs.Meaning.{reads};
 ghost use Rattle.files.specs.Rows.{row-in};
 ghost use Rattle.std.specs.Orderings.{Decides};
 ghost use Rattle.std.specs.Results.{Cases, isOk};
@@ -43,7 +44,7 @@ fn read_row<K: Kind>(
     i: usize,
     before: &Option<K::Key>,
 ) -> Result<(), RowFault>
-    ensures { λ r. ⌜ Cases r (λ _. Read (K·Kind .meaning) (now (rows .entry) .supplier) (row-in (now (rows .entry)) i) (now (before .entry)) (now (into .exit))) (λ e. judged (K·Kind .meaning) (now (before .entry)) (K·Kind .meaning .reads (now (rows .entry) .supplier) (row-in (now (rows .entry)) i)) ≡ Some e) ⌝ }
+    ensures { λ r. ⌜ Cases r (λ _. Read (K·Kind .meaning) (now (rows .entry) .supplier) (row-in (now (rows .entry)) i) (now (before .entry)) (now (into .exit))) (λ e. judged (K·Kind .meaning) (now (before .entry)) (reads (K·Kind .meaning) (now (rows .entry) .supplier) (row-in (now (rows .entry)) i)) ≡ Some e) ⌝ }
 {
     into.read(rows.supplier, rows.row(i))?;
     check_order(before, into)
@@ -63,7 +64,7 @@ fn scan<K: Kind>(rows: &Rows<'_>, places: &mut [Place<K::Number>]) -> (usize, Op
     ensures scanned { λ r. ⌜ Scanned (K·Kind .meaning) (now (rows .entry) .supplier) (row-in (now (rows .entry))) (length (now (places .entry))) (r .0) (r .1) ⌝ }
     ensures noted { λ r. ⌜ Noted (K·Kind .meaning) (now (rows .entry) .supplier) (row-in (now (rows .entry))) (r .0) (now (places .exit)) ⌝ }
 {
-    let mut record = K::blank();
+    let mut record = K::values(0, &[]);
     let mut before = None;
     for i in 0..places.len() {
         if let Err(fault) = read_row(&mut record, rows, i, &before) {
@@ -87,8 +88,7 @@ fn twice<K: Kind>(rows: &Rows<'_>, row: u32) -> FileFault
     requires { ⌜ row < 4096 ⌝ }
     ensures { λ r. ⌜ r ≡ record { row = row + 1; fault = Twice (number-at (K·Kind .meaning) (now (rows .entry) .supplier) (row-in (now (rows .entry))) row) } ⌝ }
 {
-    let mut record = K::blank();
-    let _ = record.read(rows.supplier, rows.row(row as usize));
+    let record = rows.record::<K>(row as usize);
     FileFault {
         row: row + 1,
         fault: RowFault::Twice(K::record_number(record.number())),
@@ -107,7 +107,10 @@ fn read_all<K: Kind>(rows: &Rows<'_>, places: &mut [Place<K::Number>]) -> Result
     }
     match fault {
         None => Ok(()),
-        Some(fault) => Err(FileFault { row: read as u32 + 1, fault }),
+        Some(fault) => Err(FileFault {
+            row: read as u32 + 1,
+            fault,
+        }),
     }
 }
 

@@ -96,7 +96,7 @@ fn rows(rt: &LibcRuntime) -> io::Result<()> {
         rt,
         "The rows follow. This one brings a new station, and a buyer who loads it holds all its fields:"
     )?;
-    let mut station = Station::blank();
+    let mut station = Station::values(0, &[]);
     if !tell_row(rt, &mut station, FIRST)? {
         return Ok(());
     }

@@ -12,7 +12,7 @@ use Rattle.fields.specs.declared.rule.FieldType.the-variants.{Alphanumeric, Num
 use Rattle.fields.specs.declared.rule.Need.the-variants.{Mandatory, Optional}
 use Rattle.fields.specs.Bytes.{columns}
 use Rattle.fields.specs.Flags.{key-flag}
-use Rattle.fields.specs.Rules.{checked, field}
+use Rattle.fields.specs.Rules.{field}
 use Rattle.kinds.specs.declared.cover.Cover.the-variants.{By, Flag, Steady}
 use Rattle.kinds.specs.declared.cover.Line.{Line}
 use Rattle.kinds.specs.declared.fare_table.FareTable.{FareTable}
@@ -24,7 +24,7 @@ use Rattle.kinds.specs.Cover.{True-flags, differs-under, line}
 use Rattle.kinds.specs.Meaning.{Meaning}
 use Rattle.kinds.specs.Orders.{apart-numbers, order-of}
 use Rattle.kinds.specs.Taking.{Spared, same-number, spares, takes-sign, takes-text}
-use Rattle.kinds.specs.Values.{flag-in, number-in, numbers-differ, read-as, signs-differ, taken, text-in, texts-differ}
+use Rattle.kinds.specs.Values.{flag-in, number-in, numbers-differ, signs-differ, taken, text-in, texts-differ}
 
 abbrev pub fare-table-table : List Field
 fare-table-table =
@@ -163,8 +163,9 @@ fare-table-takes-all t r h =
 abbrev pub fare-table-meaning : Meaning FareTable FareTableTold ℕ ℕ
 fare-table-meaning =
     record {
-      reads = λ s row. read-as (fare-table-in s row) (checked (fare-table-context s row) row fare-table-table);
-      blank = fare-table-in 0 [];
+      table = fare-table-table;
+      context = fare-table-context;
+      values = fare-table-in;
       supplier = λ r. r .supplier;
       number = λ r. r .number;
       numbers = order-of unsigned;

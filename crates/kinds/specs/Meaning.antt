@@ -10,8 +10,12 @@ use Rattle.std.specs.declared.result.Result.{Result}
 use Rattle.std.specs.Orderings.{reversed}
 use Rattle.fields.specs.declared.fault.FieldFault.{FieldFault}
 use Rattle.fields.specs.declared.flags.KeyFlag.{KeyFlag}
+use Rattle.fields.specs.declared.rule.Context.{Context}
+use Rattle.fields.specs.declared.rule.Field.{Field}
+use Rattle.fields.specs.Rules.{checked}
 use Rattle.kinds.specs.declared.cover.Line.{Line}
 use Rattle.kinds.specs.Cover.{True-flags, compared}
+use Rattle.kinds.specs.Values.{read-as}
 
 -- a total and transitive order
 pub record Order (K : Type 0) : Type 0 where
@@ -22,10 +26,11 @@ pub record Order (K : Type 0) : Type 0 where
 
 -- R are the records, T their told fields, N their numbers and K their order keys
 pub record Meaning (R T N K : Type 0) : Type 0 where
-  -- what a row is read as, under a head's supplier
-  pub reads : ℕ → List ℕ → Result R FieldFault
-  -- a record to read into, before anything was read
-  pub blank : R
+  -- the table of a row's fields, and what its rules refer to under a head's supplier
+  pub table : List Field
+  pub context : ℕ → List ℕ → Context
+  -- what the columns of a row say, whether they keep their rules or not
+  pub values : ℕ → List ℕ → R
   pub supplier : R → ℕ
   -- the number, in an order that tells any two numbers apart
   pub number : R → N
@@ -45,6 +50,10 @@ pub record Meaning (R T N K : Type 0) : Type 0 where
   pub takes-all : (t : T) (r : R) → True-flags lines (marks t r) → takes t r ≡ told r
   -- law 2: the file order is total and transitive
   pub file-order : Order K
+
+-- what a row is read as: its values where every field keeps its rule, else the first field fault
+abbrev pub reads : {R T N K : Type 0} → Meaning R T N K → ℕ → List ℕ → Result R FieldFault
+reads m s row = read-as (m .values s row) (checked (m .context s row) row (m .table))
 
 -- the comparison of an older record's told fields with a newer record
 abbrev pub compares : {R T N K : Type 0} → Meaning R T N K → T → R → Option ℕ

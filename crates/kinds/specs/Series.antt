@@ -12,7 +12,7 @@ use Rattle.fields.specs.declared.rule.FieldType.the-variants.{Alphanumeric, Num
 use Rattle.fields.specs.declared.rule.Need.the-variants.{Mandatory, Optional}
 use Rattle.fields.specs.Bytes.{columns}
 use Rattle.fields.specs.Flags.{key-flag}
-use Rattle.fields.specs.Rules.{checked, field}
+use Rattle.fields.specs.Rules.{field}
 use Rattle.kinds.specs.declared.cover.Cover.the-variants.{By, Flag}
 use Rattle.kinds.specs.declared.cover.Line.{Line}
 use Rattle.kinds.specs.declared.series.End.{End}
@@ -26,7 +26,7 @@ use Rattle.kinds.specs.Cover.{True-flags, differs-under, line}
 use Rattle.kinds.specs.Meaning.{Meaning}
 use Rattle.kinds.specs.Orders.{apart-numbers, by-text, order-of, ranks, ranks-text}
 use Rattle.kinds.specs.Taking.{Reaches, Spared, same-number, spares, takes, takes-number, takes-sign, takes-text}
-use Rattle.kinds.specs.Values.{flag-in, number-in, numbers-differ, read-as, row-context, sign-in, signs-differ, taken, text-in, texts-differ}
+use Rattle.kinds.specs.Values.{flag-in, number-in, numbers-differ, row-context, sign-in, signs-differ, taken, text-in, texts-differ}
 
 -- '+', 'B' and 'S'
 abbrev pub usual-sign : ℕ
@@ -250,8 +250,9 @@ by-key = on (λ k. (k .«series_type», (k .departure, (k .destination, k .«rou
 abbrev pub series-meaning : Meaning Series SeriesTold ℕ SeriesKey
 series-meaning =
     record {
-      reads = λ s row. read-as (series-in s row) (checked (row-context s row) row series-table);
-      blank = series-in 0 [];
+      table = series-table;
+      context = row-context;
+      values = series-in;
       supplier = λ r. r .supplier;
       number = λ r. r .number;
       numbers = order-of unsigned;

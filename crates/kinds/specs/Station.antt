@@ -11,7 +11,7 @@ use Rattle.fields.specs.declared.rule.Need.the-variants.{Mandatory, Optional}
 use Rattle.fields.specs.declared.text.Text.{Text}
 use Rattle.fields.specs.Bytes.{columns}
 use Rattle.fields.specs.Flags.{key-flag}
-use Rattle.fields.specs.Rules.{checked, field}
+use Rattle.fields.specs.Rules.{field}
 use Rattle.kinds.specs.declared.cover.Cover.the-variants.{By, Flag}
 use Rattle.kinds.specs.declared.cover.Line.{Line}
 use Rattle.kinds.specs.declared.station.Station.{Station}
@@ -21,7 +21,7 @@ use Rattle.kinds.specs.Cover.{True-flags, differs-under, line}
 use Rattle.kinds.specs.Meaning.{Meaning}
 use Rattle.kinds.specs.Orders.{apart-numbers, by-text, order-of}
 use Rattle.kinds.specs.Taking.{Spared, spares, takes-number, takes-text}
-use Rattle.kinds.specs.Values.{flag-in, number-in, numbers-differ, read-as, row-context, taken, text-in, texts-differ}
+use Rattle.kinds.specs.Values.{flag-in, number-in, numbers-differ, row-context, taken, text-in, texts-differ}
 
 abbrev pub station-table : List Field
 station-table =
@@ -117,8 +117,9 @@ station-takes-all t r h =
 abbrev pub station-meaning : Meaning Station StationTold ℕ (Text 17)
 station-meaning =
     record {
-      reads = λ s row. read-as (station-in s row) (checked (row-context s row) row station-table);
-      blank = station-in 0 [];
+      table = station-table;
+      context = row-context;
+      values = station-in;
       supplier = λ r. r .supplier;
       number = λ r. r .number;
       numbers = order-of unsigned;

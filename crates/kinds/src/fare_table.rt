@@ -209,8 +209,8 @@ pub impl Kind for FareTable as FareTableKind {
 
     ghost meaning = { fare-table-meaning };
 
-    fn blank() -> FareTable {
-        record_in(0, &[])
+    fn values(supplier: u32, row: &[u8]) -> FareTable {
+        record_in(supplier, row)
     }
 
     fn read(&mut self, supplier: u32, row: &[u8]) -> Result<(), FieldFault> {

@@ -1,7 +1,7 @@
 // A kind of record: what a station, a series and a fare table have in common.
 ghost use Rattle.fields.specs.declared.flags.KeyFlag.the-variants.{Deletion, NoAmendment};
 ghost use Rattle.kinds.specs.Cover.{True-flags};
-ghost use Rattle.kinds.specs.Meaning.{Meaning, compares};
+ghost use Rattle.kinds.specs.Meaning.{Meaning, compares, reads};
 ghost use Rattle.std.specs.Options.{isSome};
 ghost use Rattle.std.specs.Orderings.{Decides};
 ghost use Rattle.std.specs.Results.{Cases};
@@ -33,13 +33,13 @@ pub trait Kind: Copy {
 
     law ordered: { (x y : Self·Key) (r : Ordering) → Key·Ord .orders x y r → r ≡ meaning .file-order .cmp x y };
 
-    // A record to read into, before anything was read.
-    fn blank() -> Self
-        ensures { λ r. ⌜ r ≡ meaning .blank ⌝ };
+    // What the columns of a row say, whether they keep their rules or not.
+    fn values(supplier: u32, row: &[u8]) -> Self
+        ensures { λ r. ⌜ r ≡ meaning .values supplier (now (row .entry)) ⌝ };
 
     // Reads a row under a head's supplier into this record, or gives the first field fault and leaves it as it was.
     fn read(&mut self, supplier: u32, row: &[u8]) -> Result<(), FieldFault>
-        ensures reads { λ r. ⌜ Cases r (λ _. meaning .reads supplier (now (row .entry)) ≡ Ok (now (self .exit))) (λ e. (meaning .reads supplier (now (row .entry)) ≡ Err e) × (now (self .exit) ≡ now (self .entry))) ⌝ }
+        ensures reads { λ r. ⌜ Cases r (λ _. reads meaning supplier (now (row .entry)) ≡ Ok (now (self .exit))) (λ e. (reads meaning supplier (now (row .entry)) ≡ Err e) × (now (self .exit) ≡ now (self .entry))) ⌝ }
         ensures supplier { λ r. ⌜ Cases r (λ _. meaning .supplier (now (self .exit)) ≡ supplier) (λ _. Unit {0}) ⌝ };
 
     fn number(&self) -> Self::Number

@@ -280,8 +280,8 @@ pub impl Kind for Series as SeriesKind {
 
     ghost meaning = { series-meaning };
 
-    fn blank() -> Series {
-        record_in(0, &[])
+    fn values(supplier: u32, row: &[u8]) -> Series {
+        record_in(supplier, row)
     }
 
     fn read(&mut self, supplier: u32, row: &[u8]) -> Result<(), FieldFault> {

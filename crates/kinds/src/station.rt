@@ -162,8 +162,8 @@ pub impl Kind for Station as StationKind {
 
     ghost meaning = { station-meaning };
 
-    fn blank() -> Station {
-        record_in(0, &[])
+    fn values(supplier: u32, row: &[u8]) -> Station {
+        record_in(supplier, row)
     }
 
     fn read(&mut self, supplier: u32, row: &[u8]) -> Result<(), FieldFault> {

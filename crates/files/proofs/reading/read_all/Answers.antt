@@ -19,8 +19,8 @@ twice-requires g c κs =
     let o = total-of (m .numbers) (g .K·Kind·met .numbered) in
     let long : c .scan-read .result .0 ≤ length (c .scan-read .last .places) = omega (arith, c .scan-read .ensures .scanned .most) in
     let there =
-      repeats-there m (rows .supplier) (row-in rows) (c .scan-read .result .0) (c .scan-read .last .places) long (c .scan-read .ensures .noted)
-      o (λ x y. refl) (c .in-Some .row) (c .in-Some .ensures tt .first o .0) in
+    repeats-there m (rows .supplier) (row-in rows) (c .scan-read .result .0) (c .scan-read .last .places) long (c .scan-read .ensures .noted)
+    o (λ x y. refl) (c .in-Some .row) (c .in-Some .ensures tt .first o .0) in
     omega (arith, there .0, c .scan-read .ensures .scanned .most)
 
 pub returns-in-Some : need.returns-in-Some
@@ -30,8 +30,8 @@ returns-in-Some g c =
     let o = total-of (m .numbers) (g .K·Kind·met .numbered) in
     let long : c .scan-read .result .0 ≤ length (c .scan-read .last .places) = omega (arith, c .scan-read .ensures .scanned .most) in
     let fault =
-      when-repeated m (rows .supplier) (row-in rows) (c .scan-read .result .0) (c .scan-read .last .places) long (c .scan-read .ensures .noted)
-      o (λ x y. refl) (length (c .args .places .now)) (c .scan-read .result .1) (c .scan-read .ensures .scanned) (c .in-Some .row) (c .in-Some .ensures tt .first o) in
+    when-repeated m (rows .supplier) (row-in rows) (c .scan-read .result .0) (c .scan-read .last .places) long (c .scan-read .ensures .noted)
+    o (λ x y. refl) (length (c .args .places .now)) (c .scan-read .result .1) (c .scan-read .ensures .scanned) (c .in-Some .row) (c .in-Some .ensures tt .first o) in
     record { first = ap Err (c .twice .ensures) ∙ ap told (sym fault); index = λ e. absurd (false≢true e) }
 
 pub returns-in-None : need.returns-in-None
@@ -41,20 +41,21 @@ returns-in-None g c =
     let o = total-of (m .numbers) (g .K·Kind·met .numbered) in
     let long : c .scan-read .result .0 ≤ length (c .scan-read .last .places) = omega (arith, c .scan-read .ensures .scanned .most) in
     let none =
-      when-all m (rows .supplier) (row-in rows) (c .scan-read .result .0) (c .scan-read .last .places) long (c .scan-read .ensures .noted)
-      o (λ x y. refl) (length (c .args .places .now)) (c .scan-read .result .1) (c .scan-read .ensures .scanned) (c .in-None .is) (c .in-rest .ensures tt .first o) in
+    when-all m (rows .supplier) (row-in rows) (c .scan-read .result .0) (c .scan-read .last .places) long (c .scan-read .ensures .noted)
+    o (λ x y. refl) (length (c .args .places .now)) (c .scan-read .result .1) (c .scan-read .ensures .scanned) (c .in-None .is) (c .in-rest .ensures tt .first o) in
     let ps = c .scan-read .last .places in
     let qs = c .first-repeat .last .places in
     let all : c .scan-read .result .0 ≡ length (c .args .places .now) = cases-at-none _ _ (c .in-None .is) (c .scan-read .ensures .scanned .next) in
     let places : Indexed m (rows .supplier) (row-in rows) (c .scan-read .result .0) qs =
-      indexed m (rows .supplier) (row-in rows) (c .scan-read .result .0) ps long (c .scan-read .ensures .noted) qs (c .in-rest .ensures tt .same) in
+    indexed m (rows .supplier) (row-in rows) (c .scan-read .result .0) ps long (c .scan-read .ensures .noted) qs (c .in-rest .ensures tt .same) in
     let rest = no-rest (c .scan-read .result .0) ps qs (omega (arith, all)) in
     record {
       first = ap told (sym none);
-      index = λ _.
-        ( subst (λ x. Indexed m (rows .supplier) (row-in rows) (length (c .args .places .now)) x) (sym rest)
-          (subst (λ n. Indexed m (rows .supplier) (row-in rows) n qs) all places)
-        , λ o. subst (λ x. Sorted-places o x) (sym rest) (c .in-rest .ensures tt .sorted o) )
+      index = λ _. (
+        subst (λ x. Indexed m (rows .supplier) (row-in rows) (length (c .args .places .now)) x) (sym rest)
+            (subst (λ n. Indexed m (rows .supplier) (row-in rows) n qs) all places),
+        λ o. subst (λ x. Sorted-places o x) (sym rest) (c .in-rest .ensures tt .sorted o),
+      );
     }
 
 pub returns-in-Some-fault : need.returns-in-Some-fault
@@ -64,6 +65,6 @@ returns-in-Some-fault g c =
     let o = total-of (m .numbers) (g .K·Kind·met .numbered) in
     let long : c .scan-read .result .0 ≤ length (c .scan-read .last .places) = omega (arith, c .scan-read .ensures .scanned .most) in
     let fault =
-      when-next m (rows .supplier) (row-in rows) (c .scan-read .result .0) (c .scan-read .last .places) long (c .scan-read .ensures .noted)
-      o (λ x y. refl) (length (c .args .places .now)) (c .scan-read .result .1) (c .scan-read .ensures .scanned) _ (c .in-Some-fault .is) (c .in-rest .ensures tt .first o) in
+    when-next m (rows .supplier) (row-in rows) (c .scan-read .result .0) (c .scan-read .last .places) long (c .scan-read .ensures .noted)
+    o (λ x y. refl) (length (c .args .places .now)) (c .scan-read .result .1) (c .scan-read .ensures .scanned) _ (c .in-Some-fault .is) (c .in-rest .ensures tt .first o) in
     record { first = ap told (sym fault); index = λ e. absurd (false≢true e) }

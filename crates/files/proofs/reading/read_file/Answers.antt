@@ -26,9 +26,10 @@ returns g c =
       first = first;
       sound = told-sound m s row (min (length ps) 4096) r first;
       index = λ ok few.
-        let rest = no-rest n ps qs (omega (arith, c .min-n .ensures)) in
-        let all : length (take (n - 0) ps) ≡ length ps = omega (arith, long) in
-        let indexed = c .read-all .ensures .index ok in
-        ( subst (λ x. Indexed m s row (length ps) x) (sym rest) (subst (λ w. Indexed m s row w qs) all (indexed .0))
-        , λ o. subst (λ x. Sorted-places o x) (sym rest) (indexed .1 o) )
+          let rest = no-rest n ps qs (omega (arith, c .min-n .ensures)) in
+          let all : length (take (n - 0) ps) ≡ length ps = omega (arith, long) in
+          let indexed = c .read-all .ensures .index ok in (
+            subst (λ x. Indexed m s row (length ps) x) (sym rest) (subst (λ w. Indexed m s row w qs) all (indexed .0)),
+            λ o. subst (λ x. Sorted-places o x) (sym rest) (indexed .1 o),
+          );
     }
