@@ -1,2 +1,4 @@
+pub mod Across
+pub mod Delivery
 pub mod Faults
 pub mod Head

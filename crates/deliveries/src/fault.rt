@@ -1,9 +1,14 @@
-// What a delivery's head can be refused for.
-ghost use Rattle.deliveries.specs.Faults.{head-parts};
+// What a delivery can be refused for: its head, a row, or a series beside its stations.
+ghost use Rattle.deliveries.specs.Faults.{delivery-parts, head-parts};
+ghost use Rattle.deliveries.specs.declared.fault.DeliveryFault.the-variants.{Head};
 ghost use mathlib.Core.Path.{_≡_};
 use fields::parts::Layer;
 use fields::parts::Parts;
 use fields::parts::PartsDisplay;
+use files::fault::FileFault;
+use files::fault::FileFaultDebug;
+use files::fault::FileFaultEq;
+use files::fault::FileFaultPartialEq;
 use std::fmt;
 
 #[derive(Clone, Copy, PartialEq, Eq, Debug)]
@@ -64,6 +69,85 @@ fn field_advice(field: u8) -> &'static str {
 }
 
 pub impl fmt::Display for HeadFault as HeadFaultDisplay {
+    fn fmt<W: fmt::Write>(&self, f: &mut fmt::Formatter<W>) -> fmt::Result {
+        let parts = self.parts();
+        let advice = self.advice();
+        write!(f, "{parts} ({advice})")
+    }
+}
+
+// A series with key flag 0 or 1 that does not fit its stations, with the field at fault and the series' number.
+#[derive(Clone, Copy, PartialEq, Eq, Debug)]
+pub enum AcrossFault {
+    // no station with this code has key flag 0 or 1
+    NoStation(u8, u32),
+    // the designation is not that station's
+    OtherDesignation(u8, u32),
+}
+
+#[derive(Clone, Copy, PartialEq, Eq, Debug)]
+pub enum DeliveryFault {
+    Head(HeadFault),
+    // in the file of this letter
+    Row(char, FileFault),
+    // in this row of the series, counted from 1
+    Across(u32, AcrossFault),
+}
+
+pub impl From<HeadFault> for DeliveryFault as DeliveryFaultFromHead {
+    ghost converts = { λ e r. r ≡ Head e };
+
+    fn from(fault: HeadFault) -> DeliveryFault {
+        DeliveryFault::Head(fault)
+    }
+}
+
+impl DeliveryFault {
+    pub fn parts(&self) -> Parts
+        ensures { λ r. ⌜ r ≡ delivery-parts (now (self .entry)) ⌝ }
+    {
+        match *self {
+            DeliveryFault::Head(fault) => fault.parts(),
+            DeliveryFault::Row(letter, fault) => fault.parts(letter),
+            DeliveryFault::Across(row, AcrossFault::NoStation(field, record)) => {
+                Parts {
+                    number: 9,
+                    layer: Layer::Across,
+                    letter: 'S',
+                    row,
+                    field,
+                    record,
+                }
+            }
+            DeliveryFault::Across(row, AcrossFault::OtherDesignation(field, record)) => {
+                Parts {
+                    number: 10,
+                    layer: Layer::Across,
+                    letter: 'S',
+                    row,
+                    field,
+                    record,
+                }
+            }
+        }
+    }
+
+    // One sentence on what to repair.
+    pub fn advice(&self) -> &'static str {
+        match self {
+            DeliveryFault::Head(fault) => fault.advice(),
+            DeliveryFault::Row(_, fault) => fault.advice(),
+            DeliveryFault::Across(_, AcrossFault::NoStation(_, _)) => {
+                "the series names a station that has no row with key flag 0 or 1"
+            }
+            DeliveryFault::Across(_, AcrossFault::OtherDesignation(_, _)) => {
+                "the designation is not the one that the station's row has"
+            }
+        }
+    }
+}
+
+pub impl fmt::Display for DeliveryFault as DeliveryFaultDisplay {
     fn fmt<W: fmt::Write>(&self, f: &mut fmt::Formatter<W>) -> fmt::Result {
         let parts = self.parts();
         let advice = self.advice();
