@@ -12,6 +12,7 @@ use Rattle.kinds.specs.FareTable.{fare-table-meaning}
 use Rattle.kinds.specs.Series.{series-meaning}
 use Rattle.kinds.specs.Station.{station-meaning}
 use Rattle.fields.specs.Bytes.{columns, value}
+use Rattle.fields.specs.Flags.{stays}
 use Rattle.files.specs.declared.fault.RowFault.{RowFault}
 use Rattle.files.specs.Files.{Sound-rows, file-fault, record-at, row-of}
 use Rattle.files.specs.First.{first, or-else}
@@ -19,7 +20,7 @@ use Rattle.deliveries.specs.declared.fault.AcrossFault.{AcrossFault}
 use Rattle.deliveries.specs.declared.fault.DeliveryFault.{DeliveryFault}
 use Rattle.deliveries.specs.declared.fault.DeliveryFault.the-variants as fault
 use Rattle.deliveries.specs.declared.fault.HeadFault.{HeadFault}
-use Rattle.deliveries.specs.Across.{Joins, series-fault, stays}
+use Rattle.deliveries.specs.Across.{Joins, series-fault}
 use Rattle.deliveries.specs.Head.{Kept, bytes-in, extent, head-fault}
 
 -- what the head says

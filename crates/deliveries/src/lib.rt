@@ -1,2 +1,3 @@
+mod across;
 pub mod fault;
 pub mod head;

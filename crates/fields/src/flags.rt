@@ -1,5 +1,5 @@
 // Key flags and amendment flags.
-ghost use Rattle.fields.specs.Flags.{amended, key-flag};
+ghost use Rattle.fields.specs.Flags.{amended, key-flag, stays};
 ghost use mathlib.Core.Path.{_≡_};
 use crate::bytes::number;
 
@@ -22,6 +22,16 @@ impl KeyFlag {
             1 => KeyFlag::New,
             2 => KeyFlag::Deletion,
             _ => KeyFlag::NoAmendment,
+        }
+    }
+
+    // Whether the record is there from the first day on.
+    pub fn stays(self) -> bool
+        ensures { λ r. ⌜ r ≡ stays self ⌝ }
+    {
+        match self {
+            KeyFlag::NoAmendment | KeyFlag::New => true,
+            KeyFlag::Deletion => false,
         }
     }
 }

@@ -4,4 +4,4 @@ pub mod kind;
 pub mod order;
 pub mod series;
 pub mod station;
-mod values;
+pub mod values;
