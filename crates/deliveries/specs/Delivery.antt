@@ -3,7 +3,9 @@ use mathlib.Core.Path.{_≡_}
 use mathlib.Core.Bool.{true}
 use mathlib.Core.List.{List}
 use Prim.Native.Nat.{ℕ, _+_, _<_}
+use denote.Ref.{now}
 use lib.ListN.{drop}
+use Rattle.std.specs.Results.{errPart}
 use Rattle.std.specs.declared.option.Option.{Option}
 use Rattle.std.specs.declared.option.Option.the-variants.{Some, None}
 use Rattle.kinds.specs.declared.series.Series.{Series}
@@ -13,8 +15,10 @@ use Rattle.kinds.specs.Series.{series-meaning}
 use Rattle.kinds.specs.Station.{station-meaning}
 use Rattle.fields.specs.Bytes.{columns, value}
 use Rattle.fields.specs.Flags.{stays}
+use Rattle.files.specs.declared.fault.FileFault.{FileFault}
 use Rattle.files.specs.declared.fault.RowFault.{RowFault}
-use Rattle.files.specs.Files.{Sound-rows, file-fault, record-at, row-of}
+use Rattle.files.specs.declared.rows.Rows.{Rows}
+use Rattle.files.specs.Files.{Sound-rows, file-fault, record-at, row-of, told}
 use Rattle.files.specs.First.{first, or-else}
 use Rattle.deliveries.specs.declared.fault.AcrossFault.{AcrossFault}
 use Rattle.deliveries.specs.declared.fault.DeliveryFault.{DeliveryFault}
@@ -65,22 +69,28 @@ abbrev pub at-head : Option HeadFault → Option DeliveryFault
 at-head None = None
 at-head (Some e) = Some (fault.Head e)
 
+abbrev pub lettered : ℕ → Option FileFault → Option DeliveryFault
+lettered letter None = None
+lettered letter (Some e) = Some (fault.Row letter e)
+
 abbrev pub in-file : ℕ → Option (ℕ × RowFault) → Option DeliveryFault
-in-file letter None = None
-in-file letter (Some p) = Some (fault.Row letter (record { row = p .0 + 1; fault = p .1 }))
+in-file letter o = lettered letter (errPart (told o))
 
 abbrev pub beside : Option (ℕ × AcrossFault) → Option DeliveryFault
 beside None = None
 beside (Some p) = Some (fault.Across (p .0 + 1) (p .1))
 
--- the first fault, in the order of the checks
-unfoldable pub delivery-fault : List ℕ → Option DeliveryFault
-delivery-fault bs =
-    or-else (at-head (head-fault bs))
-    (or-else (in-file 71 (file-fault station-meaning (supplier bs) (station-row bs) (station-count bs)))
+-- the first fault of the rows, file by file, and then of the series beside the stations
+unfoldable pub rows-fault : List ℕ → Option DeliveryFault
+rows-fault bs =
+    or-else (in-file 71 (file-fault station-meaning (supplier bs) (station-row bs) (station-count bs)))
     (or-else (in-file 83 (file-fault series-meaning (supplier bs) (series-row bs) (series-count bs)))
     (or-else (in-file 80 (file-fault fare-table-meaning (supplier bs) (table-row bs) (table-count bs)))
-    (beside (first (λ k. series-fault (station bs) (station-count bs) (series bs k)) (series-count bs))))))
+    (beside (first (λ k. series-fault (station bs) (station-count bs) (series bs k)) (series-count bs)))))
+
+-- the first fault of a delivery
+unfoldable pub delivery-fault : List ℕ → Option DeliveryFault
+delivery-fault bs = or-else (at-head (head-fault bs)) (rows-fault bs)
 
 -- the rules of a delivery, without their order
 pub record Sound (bs : List ℕ) : Type 0 where
@@ -91,3 +101,9 @@ pub record Sound (bs : List ℕ) : Type 0 where
   -- every series that stays joins stations that stay, and bears their designations
   pub departs : (k : ℕ) → k < series-count bs → stays (series bs k .«key_flag») ≡ true → Joins (station bs) (station-count bs) (series bs k .told .departure)
   pub arrives : (k : ℕ) → k < series-count bs → stays (series bs k .«key_flag») ≡ true → Joins (station bs) (station-count bs) (series bs k .told .destination)
+
+-- the rows of a file that begins after so many bytes
+pub record Rows-of (bs : List ℕ) (start length : ℕ) (rows : Rows) : Type 0 where
+  pub bytes : now (rows .bytes) ≡ drop start bs
+  pub length-is : rows .length ≡ length
+  pub supplier-is : rows .supplier ≡ supplier bs

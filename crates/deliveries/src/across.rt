@@ -1,6 +1,8 @@
 // The series of a delivery beside its stations.
 ghost use Prim.Native.Nat.{ℕ, _<_, _≤_};
 ghost use Rattle.deliveries.specs.Across.{end-fault, series-fault, station-of};
+ghost use Rattle.deliveries.specs.Delivery.{beside};
+ghost use Rattle.files.specs.First.{first};
 ghost use Rattle.files.specs.Files.{Indexed, Sound-rows, record-at};
 ghost use Rattle.files.specs.Rows.{row-in};
 ghost use Rattle.indexes.specs.Places.{Sorted-places};
@@ -11,6 +13,7 @@ ghost use Rattle.std.specs.Results.{errPart};
 ghost use lib.ListN.{length};
 ghost use mathlib.Core.Path.{_≡_};
 use crate::fault::AcrossFault;
+use crate::fault::DeliveryFault;
 use files::rows::Rows;
 use indexes::Place;
 use indexes::row_of;
@@ -77,4 +80,20 @@ fn check_series(
     let told = &series.told;
     check_end(stations, places, &told.departure, (6, 8), series.number)?;
     check_end(stations, places, &told.destination, (10, 12), series.number)
+}
+
+// The first of so many series that does not fit its stations.
+pub(crate) fn check_across(stations: &Rows<'_>, places: &[Place<u32>], series: &Rows<'_>, count: u32) -> Result<(), DeliveryFault>
+    requires index { ⌜ Indexed station-meaning (now stations .supplier) (row-in (now stations)) (length (now places)) (now places) ⌝ }
+    requires sorted { ⌜ Sorted-places unsigned (now places) ⌝ }
+    requires sound { ⌜ Sound-rows station-meaning (now stations .supplier) (row-in (now stations)) (length (now places)) ⌝ }
+    ensures { λ r. ⌜ errPart r ≡ beside (first (λ k. series-fault (record-at station-meaning (now (stations .entry) .supplier) (row-in (now (stations .entry)))) (length (now (places .entry))) (record-at series-meaning (now (series .entry) .supplier) (row-in (now (series .entry))) k)) count) ⌝ }
+{
+    for i in 0..count {
+        let record = series.record::<Series>(i as usize);
+        if let Err(fault) = check_series(stations, places, &record) {
+            return Err(DeliveryFault::Across(i + 1, fault));
+        }
+    }
+    Ok(())
 }
