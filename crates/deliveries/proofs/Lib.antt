@@ -1,2 +1,3 @@
 pub mod Ends
 pub mod Heads
+pub mod Parts

@@ -83,7 +83,12 @@ fn check_series(
 }
 
 // The first of so many series that does not fit its stations.
-pub(crate) fn check_across(stations: &Rows<'_>, places: &[Place<u32>], series: &Rows<'_>, count: u32) -> Result<(), DeliveryFault>
+pub(crate) fn check_across(
+    stations: &Rows<'_>,
+    places: &[Place<u32>],
+    series: &Rows<'_>,
+    count: u32,
+) -> Result<(), DeliveryFault>
     requires index { ⌜ Indexed station-meaning (now stations .supplier) (row-in (now stations)) (length (now places)) (now places) ⌝ }
     requires sorted { ⌜ Sorted-places unsigned (now places) ⌝ }
     requires sound { ⌜ Sound-rows station-meaning (now stations .supplier) (row-in (now stations)) (length (now places)) ⌝ }

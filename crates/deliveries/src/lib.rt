@@ -1,4 +1,4 @@
+mod across;
 pub mod fault;
 pub mod head;
-mod across;
 mod reading;

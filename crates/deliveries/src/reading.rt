@@ -1,7 +1,7 @@
 // Reading a whole buffer: its head, the rows of its three files, and its series beside its stations.
 ghost use Prim.Native.Nat.{_+_, _≤_};
 ghost use Rattle.deliveries.specs.Delivery.{Rows-of, lettered, rows-fault, series-start, supplier, table-start};
-ghost use Rattle.deliveries.specs.Head.{Bears, head-fault};
+ghost use Rattle.deliveries.specs.Head.{Whole};
 ghost use Rattle.fields.specs.Bytes.{columns, value};
 ghost use Rattle.files.specs.First.{or-else};
 ghost use Rattle.std.specs.Results.{errPart};
@@ -47,4 +47,56 @@ fn in_letter(letter: char, read: Result<(), FileFault>) -> Result<(), DeliveryFa
         Ok(()) => Ok(()),
         Err(fault) => Err(DeliveryFault::Row(letter, fault)),
     }
+}
+
+// The rows of a delivery's three files.
+#[derive(Clone, Copy)]
+pub(crate) struct Files<'a> {
+    pub stations: Rows<'a>,
+    pub series: Rows<'a>,
+    pub tables: Rows<'a>,
+}
+
+pub(crate) fn files_in<'a>(bytes: &'a [u8], head: &Head) -> Files<'a>
+    requires { ⌜ Whole (now bytes) (now head) ⌝ }
+    ensures stations { λ r. ⌜ Rows-of (now (bytes .entry)) 47 (value (columns 25 27 (now (bytes .entry)))) (r .stations) ⌝ }
+    ensures series { λ r. ⌜ Rows-of (now (bytes .entry)) (series-start (now (bytes .entry))) (value (columns 28 30 (now (bytes .entry)))) (r .series) ⌝ }
+    ensures tables { λ r. ⌜ Rows-of (now (bytes .entry)) (table-start (now (bytes .entry))) (value (columns 31 33 (now (bytes .entry)))) (r .tables) ⌝ }
+{
+    let series_start = HEAD_LENGTH + head.stations.size() as usize;
+    let table_start = series_start + head.series.size() as usize;
+    Files {
+        stations: rows_from(bytes, HEAD_LENGTH, &head.stations, head.supplier),
+        series: rows_from(bytes, series_start, &head.series, head.supplier),
+        tables: rows_from(bytes, table_start, &head.tables, head.supplier),
+    }
+}
+
+// The first fault of the rows, and then of the series beside the stations. There is room for the places of 4096 rows.
+fn check_rows(
+    bytes: &[u8],
+    head: &Head,
+    stations: &mut [Place<u32>],
+    others: &mut [Place<u32>],
+) -> Result<(), DeliveryFault>
+    requires whole { ⌜ Whole (now bytes) (now head) ⌝ }
+    requires room { ⌜ length (now stations) ≡ 4096 ⌝ }
+    requires more_room { ⌜ length (now others) ≡ 4096 ⌝ }
+    ensures { λ r. ⌜ errPart r ≡ rows-fault (now (bytes .entry)) ⌝ }
+{
+    let files = files_in(bytes, head);
+    in_letter(
+        Station::LETTER,
+        read_file::<Station>(&files.stations, head.stations.rows, stations),
+    )?;
+    in_letter(
+        Series::LETTER,
+        read_file::<Series>(&files.series, head.series.rows, others),
+    )?;
+    in_letter(
+        FareTable::LETTER,
+        read_file::<FareTable>(&files.tables, head.tables.rows, others),
+    )?;
+    let places = &stations[0..head.stations.rows as usize];
+    check_across(&files.stations, places, &files.series, head.series.rows)
 }

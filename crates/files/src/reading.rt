@@ -11,7 +11,7 @@ ghost use Rattle.std.specs.Orderings.{Decides};
 ghost use Rattle.std.specs.Results.{Cases, isOk};
 ghost use Rattle.std.specs.declared.option.Option.the-variants.{None, Some};
 ghost use Rattle.std.specs.declared.result.Result.the-variants.{Ok};
-ghost use lib.ListN.{length, set};
+ghost use lib.ListN.{length, set, take};
 ghost use mathlib.Core.Path.{_≡_};
 use crate::fault::FileFault;
 use crate::fault::RowFault;
@@ -114,13 +114,17 @@ fn read_all<K: Kind>(rows: &Rows<'_>, places: &mut [Place<K::Number>]) -> Result
     }
 }
 
-// Reads as many rows as there is room for places, at most 4096, and answers the first fault. Where there is none the
-// places are those of the rows' numbers, sorted.
-pub fn read_file<K: Kind>(rows: &Rows<'_>, places: &mut [Place<K::Number>]) -> Result<(), FileFault>
-    ensures first { λ r. ⌜ r ≡ told (file-fault (K·Kind .meaning) (now (rows .entry) .supplier) (row-in (now (rows .entry))) (min (length (now (places .entry))) 4096)) ⌝ }
-    ensures sound { λ r. ⌜ Decides (isOk r) (Sound-rows (K·Kind .meaning) (now (rows .entry) .supplier) (row-in (now (rows .entry))) (min (length (now (places .entry))) 4096)) ⌝ }
-    ensures index { λ r. ⌜ (isOk r ≡ true → length (now (places .entry)) ≤ 4096 → Indexed (K·Kind .meaning) (now (rows .entry) .supplier) (row-in (now (rows .entry))) (length (now (places .entry))) (now (places .exit)) × ((o : Total (Number·Ord .orders)) → Sorted-places o (now (places .exit)))) ⌝ }
+// Reads so many rows, at most 4096 and as many as there is room for places, and answers the first fault. Where there is
+// none, the places at the front are those of the rows' numbers, sorted.
+pub fn read_file<K: Kind>(
+    rows: &Rows<'_>,
+    count: u32,
+    places: &mut [Place<K::Number>],
+) -> Result<(), FileFault>
+    ensures first { λ r. ⌜ r ≡ told (file-fault (K·Kind .meaning) (now (rows .entry) .supplier) (row-in (now (rows .entry))) (min count (min (length (now (places .entry))) 4096))) ⌝ }
+    ensures sound { λ r. ⌜ Decides (isOk r) (Sound-rows (K·Kind .meaning) (now (rows .entry) .supplier) (row-in (now (rows .entry))) (min count (min (length (now (places .entry))) 4096))) ⌝ }
+    ensures index { λ r. ⌜ (isOk r ≡ true → count ≤ min (length (now (places .entry))) 4096 → Indexed (K·Kind .meaning) (now (rows .entry) .supplier) (row-in (now (rows .entry))) count (take count (now (places .exit))) × ((o : Total (Number·Ord .orders)) → Sorted-places o (take count (now (places .exit))))) ⌝ }
 {
-    let n = places.len().min(MOST_ROWS);
+    let n = MOST_ROWS.min(places.len()).min(count as usize);
     read_all::<K>(rows, &mut places[0..n])
 }

@@ -9,5 +9,5 @@ returns c =
     record {
       bytes = same-lists _ _ (search (needs, places)) (λ k d h. grind (arith, places));
       length = refl;
-      supplier = refl
+      supplier = refl;
     }
