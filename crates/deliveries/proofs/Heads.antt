@@ -24,7 +24,7 @@ use Rattle.deliveries.specs.declared.fault.HeadFault.{HeadFault}
 use Rattle.deliveries.specs.declared.fault.HeadFault.the-variants.{Short, BrokenField, WrongSize}
 use Rattle.deliveries.specs.declared.head.Extent.{Extent}
 use Rattle.deliveries.specs.declared.head.Head.{Head}
-use Rattle.deliveries.specs.Head.{Kept, Whole, after-fields, all-rows, bytes-in, head-fault, head-table, no-context, right-size}
+use Rattle.deliveries.specs.Head.{Bears, Kept, Whole, after-fields, all-rows, bytes-in, head-fault, head-table, no-context, right-size}
 
 pub when-short : (bs : List ℕ) → length bs < 47 → head-fault bs ≡ Some Short
 unfolding head-fault
@@ -92,7 +92,7 @@ some-none : {A : Type 0} (x : A) → Some x ≡ None → ⊥
 some-none x e = let z : _≡_ {A = ℕ} 0 1 = cc in omega arith
 
 -- a head has no fault exactly where it keeps its rules
-kept-when-none : (bs : List ℕ) → head-fault bs ≡ None → Kept bs
+pub kept-when-none : (bs : List ℕ) → head-fault bs ≡ None → Kept bs
 unfolding head-fault
 kept-when-none bs none = go (ltb (length bs) 47) refl (checked no-context bs head-table) refl none
   where
@@ -112,7 +112,7 @@ kept-when-none bs none = go (ltb (length bs) 47) refl (checked no-context bs hea
           true-size = eqb-true _ _ (both .1);
         }
 
-none-when-kept : (bs : List ℕ) → Kept bs → head-fault bs ≡ None
+pub none-when-kept : (bs : List ℕ) → Kept bs → head-fault bs ≡ None
 none-when-kept bs k =
     when-long bs (k .long) ∙ go (checked no-context bs head-table) (checked-sound no-context bs head-table .1 (k .fields))
   where
@@ -128,3 +128,11 @@ taken bs none = (λ _. kept-when-none bs none, λ _. refl)
 
 pub refused : (bs : List ℕ) (e : HeadFault) → head-fault bs ≡ Some e → Decides false (Kept bs)
 refused bs e fault = (λ x. absurd (false≢true x), λ k. absurd (some-none e (sym fault ∙ none-when-kept bs k)))
+
+-- what a kept head bears
+pub whole : (bs : List ℕ) (h : Head) → Kept bs → Bears bs h → Whole bs h
+whole bs h k b = record { long = k .long; kept = go (checked no-context bs head-table) (checked-sound no-context bs head-table .1 (k .fields)); bears = b }
+  where
+    go : (r : Result (Unit {0}) FieldFault) → isOk r ≡ true → Ok tt ≡ r
+    go (Ok u) e = refl
+    go (Err x) e = absurd (false≢true e)

@@ -1,3 +1,5 @@
 pub mod Ends
 pub mod Heads
+pub mod Joined
 pub mod Parts
+pub mod Verdict

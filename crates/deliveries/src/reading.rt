@@ -1,19 +1,22 @@
 // Reading a whole buffer: its head, the rows of its three files, and its series beside its stations.
 ghost use Prim.Native.Nat.{_+_, _≤_};
-ghost use Rattle.deliveries.specs.Delivery.{Rows-of, lettered, rows-fault, series-start, supplier, table-start};
+ghost use Rattle.deliveries.specs.Delivery.{Rows-of, delivery-fault, lettered, rows-fault, series-start, supplier, table-start};
 ghost use Rattle.deliveries.specs.Head.{Whole};
 ghost use Rattle.fields.specs.Bytes.{columns, value};
 ghost use Rattle.files.specs.First.{or-else};
-ghost use Rattle.std.specs.Results.{errPart};
-ghost use Rattle.std.specs.declared.option.Option.the-variants.{None};
+ghost use Rattle.std.specs.Results.{Cases, errPart};
+ghost use Rattle.std.specs.declared.option.Option.the-variants.{None, Some};
 ghost use lib.ListN.{drop, length};
 ghost use mathlib.Core.Path.{_≡_};
 use crate::across::check_across;
 use crate::fault::DeliveryFault;
+use crate::fault::DeliveryFaultFromHead;
 use crate::head::Extent;
 use crate::head::HEAD_LENGTH;
 use crate::head::Head;
+use crate::head::read_head;
 use files::fault::FileFault;
+use files::reading::MOST_ROWS;
 use files::reading::read_file;
 use files::rows::Rows;
 use indexes::Place;
@@ -99,4 +102,16 @@ fn check_rows(
     )?;
     let places = &stations[0..head.stations.rows as usize];
     check_across(&files.stations, places, &files.series, head.series.rows)
+}
+
+// The head of a sound delivery, or the first fault of the buffer.
+fn check(bytes: &[u8]) -> Result<Head, DeliveryFault>
+    ensures { λ r. ⌜ Cases r (λ h. (delivery-fault (now (bytes .entry)) ≡ None) × Whole (now (bytes .entry)) h) (λ e. delivery-fault (now (bytes .entry)) ≡ Some e) ⌝ }
+{
+    let head = read_head(bytes)?;
+    let empty = Place { number: 0, row: 0 };
+    let mut stations = [empty; MOST_ROWS];
+    let mut others = [empty; MOST_ROWS];
+    check_rows(bytes, &head, &mut stations, &mut others)?;
+    Ok(head)
 }
