@@ -48,3 +48,57 @@ first-at f (suc n) p e = go (first f n) (f n) refl (first-at f n p) e
         let k : n ≡ p .0 = cc in
         let v : y ≡ p .1 = cc in
         (omega (arith, k), ap f (sym k) ∙ (q ∙ ap Some v))
+
+module _ (station : ℕ → Station) (g : ℕ) where
+  stood : (x y : Station) (t : Bool) → cond t (Some x) None ≡ Some y → (t ≡ true) × (x ≡ y)
+  stood x y true e = (refl, cc)
+  stood x y false e = absurd (some-none y (sym e))
+
+  fits : (d : Bool) (e : AcrossFault) → cond d (Some e) None ≡ None → d ≡ false
+  fits true e n = absurd (some-none e n)
+  fits false e n = refl
+
+  joins-when-none : (e : End) (a b n : ℕ) → end-fault e a b n (station-of station g (e .station)) ≡ None → Joins station g e
+  joins-when-none e a b n none = go (first (stands station g (e .station)) g) refl none
+    where
+      go : (o : Option (ℕ × Station)) → first (stands station g (e .station)) g ≡ o → end-fault e a b n (mapped (λ p. p .1) o) ≡ None → Joins station g e
+      go None q f = absurd (some-none _ f)
+      go (Some p) q f =
+          let h = first-at (stands station g (e .station)) g p q in
+          let s = stood (station (p .0)) (p .1) _ (h .1) in
+          let both = and-parts (eqb (station (p .0) .number) (e .station)) (stays (station (p .0) .«key_flag»)) (s .0) in
+          record {
+            at = p .0;
+            there = h .0;
+            code = eqb-true _ _ (both .0);
+            staying = both .1;
+            designation = same-text (e .designation) _ (fits _ _ f) ∙ ap (λ x. x .told .designation) (sym (s .1));
+          }
+
+  none-when-joins : (e : End) (a b n : ℕ) → ((j k : ℕ) → j < k → k < g → station j .number ≡ station k .number → ⊥) → Joins station g e →
+      end-fault e a b n (station-of station g (e .station)) ≡ None
+  none-when-joins e a b n single j =
+      let k = j .at in
+      let found : first (stands station g (e .station)) g ≡ Some (k, station k) =
+      first-some (stands station g (e .station)) g k (station k) (j .there)
+      (λ i. cond (eq-eqb (station k .number) (e .station) (j .code) i && j .staying i) (Some (station k)) None)
+      (λ l below. ap (λ t. cond t (Some (station l)) None)
+      (and-left (eqb (station l .number) (e .station)) _ (ne-eqb (station l .number) (e .station) (λ same. single l k below (j .there) (same ∙ sym (j .code)))))) in
+      ap (λ o. end-fault e a b n (mapped (λ p. p .1) o)) found
+      ∙ ap (λ t. cond t (Some (OtherDesignation b n)) None) (text-same (e .designation) (station k .told .designation) (j .designation))
+
+  pub ends-when-none : (r : Series) → series-fault station g r ≡ None → stays (r .«key_flag») ≡ true → Joins station g (r .told .departure) × Joins station g (r .told .destination)
+  ends-when-none r none stay =
+      let both = or-none _ _ (ap (λ t. cond t (ends-fault station g r) None) (sym stay) ∙ none) in
+      (joins-when-none (r .told .departure) 6 8 (r .number) (both .0), joins-when-none (r .told .destination) 10 12 (r .number) (both .1))
+
+  pub none-when-ends : (r : Series) → ((j k : ℕ) → j < k → k < g → station j .number ≡ station k .number → ⊥) →
+      (stays (r .«key_flag») ≡ true → Joins station g (r .told .departure)) → (stays (r .«key_flag») ≡ true → Joins station g (r .told .destination)) →
+      series-fault station g r ≡ None
+  none-when-ends r single departs arrives = go (stays (r .«key_flag»)) departs arrives
+    where
+      go : (t : Bool) → (t ≡ true → Joins station g (r .told .departure)) → (t ≡ true → Joins station g (r .told .destination)) → cond t (ends-fault station g r) None ≡ None
+      go false d a = refl
+      go true d a =
+          λ i. or-else (none-when-joins (r .told .departure) 6 8 (r .number) single (d refl) i)
+          (none-when-joins (r .told .destination) 10 12 (r .number) single (a refl) i)
