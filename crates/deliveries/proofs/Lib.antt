@@ -1,3 +1,4 @@
+pub mod Emptied
 pub mod Ends
 pub mod Heads
 pub mod Joined

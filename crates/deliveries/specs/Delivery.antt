@@ -24,6 +24,7 @@ use Rattle.deliveries.specs.declared.fault.AcrossFault.{AcrossFault}
 use Rattle.deliveries.specs.declared.fault.DeliveryFault.{DeliveryFault}
 use Rattle.deliveries.specs.declared.fault.DeliveryFault.the-variants as fault
 use Rattle.deliveries.specs.declared.fault.HeadFault.{HeadFault}
+use Rattle.deliveries.specs.declared.head.Head.{Head}
 use Rattle.deliveries.specs.Across.{Joins, series-fault}
 use Rattle.deliveries.specs.Head.{Kept, bytes-in, extent, head-fault}
 
@@ -107,3 +108,14 @@ pub record Rows-of (bs : List ℕ) (start length : ℕ) (rows : Rows) : Type 0 w
   pub bytes : now (rows .bytes) ≡ drop start bs
   pub length-is : rows .length ≡ length
   pub supplier-is : rows .supplier ≡ supplier bs
+
+-- the head of the empty delivery
+pub record Empty (h : Head) : Type 0 where
+  pub stations : h .stations ≡ record { rows = 0; length = 92 }
+  pub series : h .series ≡ record { rows = 0; length = 73 }
+  pub tables : h .tables ≡ record { rows = 0; length = 207 }
+  pub supplier : h .supplier ≡ 0
+  pub year : h .«first_day» .year ≡ 2000
+  pub month : h .«first_day» .month ≡ 1
+  pub day : h .«first_day» .day ≡ 1
+  pub version : h .version ≡ 1

@@ -1,4 +1,5 @@
 mod across;
+pub mod delivery;
 pub mod fault;
 pub mod head;
 mod reading;

@@ -105,7 +105,7 @@ fn check_rows(
 }
 
 // The head of a sound delivery, or the first fault of the buffer.
-fn check(bytes: &[u8]) -> Result<Head, DeliveryFault>
+pub(crate) fn check(bytes: &[u8]) -> Result<Head, DeliveryFault>
     ensures { λ r. ⌜ Cases r (λ h. (delivery-fault (now (bytes .entry)) ≡ None) × Whole (now (bytes .entry)) h) (λ e. delivery-fault (now (bytes .entry)) ≡ Some e) ⌝ }
 {
     let head = read_head(bytes)?;
