@@ -1,3 +1,4 @@
+pub mod Borne
 pub mod Emptied
 pub mod Ends
 pub mod Heads

@@ -3,6 +3,7 @@ use mathlib.Core.Path.{_≡_, refl, sym, ap, subst, _∙_}
 use mathlib.Core.Bool.{true, false}
 use mathlib.Core.List.{List}
 use Prim.Native.Nat.{ℕ}
+use Rattle.std.specs.Options.{isSome}
 use Rattle.std.specs.Orderings.{Decides}
 use Rattle.std.specs.Results.{Cases, errPart, isOk}
 use Rattle.std.specs.declared.option.Option.{Option}
@@ -80,3 +81,10 @@ no-fault bs w =
 pub decides-sound : {A : Type 0} (bs : List ℕ) (r : Result A DeliveryFault) → Cases r (λ _. delivery-fault bs ≡ None) (λ e. delivery-fault bs ≡ Some e) → Decides (isOk r) (Sound bs)
 decides-sound bs (Ok x) none = (λ _. sound-delivery bs none, λ _. refl)
 decides-sound bs (Err e) fault = (λ z. absurd (false≢true z), λ w. absurd (some-none e (sym fault ∙ no-fault bs w)))
+
+no-some : {A : Type 0} (o : Option A) → isSome o ≡ false → o ≡ None
+no-some None e = refl
+no-some (Some x) e = absurd (false≢true (sym e))
+
+pub sound-when-read : (bs : List ℕ) → isSome (delivery-fault bs) ≡ false → Sound bs
+sound-when-read bs e = sound-delivery bs (no-some (delivery-fault bs) e)

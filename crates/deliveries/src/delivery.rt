@@ -1,6 +1,7 @@
 // A sound delivery: a buffer that was read, and is not written while the delivery is in use.
-ghost use Rattle.deliveries.specs.Delivery.{Empty, Sound, delivery-fault};
+ghost use Rattle.deliveries.specs.Delivery.{Empty, Rows-of, Sound, delivery-fault, series-start, table-start};
 ghost use Rattle.deliveries.specs.Head.{Bears};
+ghost use Rattle.fields.specs.Bytes.{columns, value};
 ghost use Rattle.std.specs.Options.{isSome};
 ghost use Rattle.std.specs.Orderings.{Decides};
 ghost use Rattle.std.specs.Results.{Cases, isOk};
@@ -11,7 +12,9 @@ ghost use mathlib.Core.Path.{_≡_};
 use crate::fault::DeliveryFault;
 use crate::head::Extent;
 use crate::head::Head;
+use crate::reading::Files;
 use crate::reading::check;
+use crate::reading::files_in;
 use fields::date::Date;
 
 // The buffer keeps every rule, and the head is the one that it bears.
@@ -62,9 +65,20 @@ impl<'a> Delivery<'a> {
         Ok(())
     }
 
+    // Its head, which its buffer bears.
     pub fn head(&self) -> Head
-        ensures { λ r. ⌜ r ≡ now (self .entry) .head ⌝ }
+        ensures { λ r. ⌜ (r ≡ now (self .entry) .head) × Bears (now (now (self .entry) .bytes)) r ⌝ }
     {
         self.head
+    }
+
+    // The rows of its three files; as many of each as the head says.
+    pub fn files(&self) -> Files<'a>
+        ensures stations { λ r. ⌜ Rows-of (now (now (self .entry) .bytes)) 47 (value (columns 25 27 (now (now (self .entry) .bytes)))) (r .stations) ⌝ }
+        ensures series { λ r. ⌜ Rows-of (now (now (self .entry) .bytes)) (series-start (now (now (self .entry) .bytes))) (value (columns 28 30 (now (now (self .entry) .bytes)))) (r .series) ⌝ }
+        ensures tables { λ r. ⌜ Rows-of (now (now (self .entry) .bytes)) (table-start (now (now (self .entry) .bytes))) (value (columns 31 33 (now (now (self .entry) .bytes)))) (r .tables) ⌝ }
+        ensures sound { λ _. ⌜ Sound (now (now (self .entry) .bytes)) ⌝ }
+    {
+        files_in(self.bytes, &self.head)
     }
 }

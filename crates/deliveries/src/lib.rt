@@ -2,4 +2,4 @@ mod across;
 pub mod delivery;
 pub mod fault;
 pub mod head;
-mod reading;
+pub mod reading;

@@ -54,7 +54,7 @@ fn in_letter(letter: char, read: Result<(), FileFault>) -> Result<(), DeliveryFa
 
 // The rows of a delivery's three files.
 #[derive(Clone, Copy)]
-pub(crate) struct Files<'a> {
+pub struct Files<'a> {
     pub stations: Rows<'a>,
     pub series: Rows<'a>,
     pub tables: Rows<'a>,
