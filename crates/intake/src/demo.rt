@@ -1,8 +1,8 @@
-// The demonstration: heads and rows are read, refused, compared and taken over, a line a step.
+// The demonstration: heads, rows and whole deliveries are read, refused, compared and taken over, a line a step.
 use crate::status::Status;
-use deliveries::fault::HeadFaultDisplay;
+use deliveries::delivery::Delivery;
+use deliveries::fault::DeliveryFaultDisplay;
 use deliveries::head::HeadDisplay;
-use deliveries::head::read_head;
 use fields::fault::FieldFaultDisplay;
 use kinds::kind::Kind;
 use kinds::station::Station;
@@ -32,13 +32,50 @@ const UNFLAGGED: &str =
 const DAMAGED: &str =
     "0081071150      ien Hauptbahnhof                  0Wien Hbf         0                 000420";
 
+// A station and a series from it that leave together, beside a station that stays.
+#[rattlefmt::skip]
+const LEAVING: &str = "\
+30000025700002000010000009207320700812026010102\
+0081071200     Linz Hauptbahnhof                  0Linz Hbf         0                 0    0\
+0081071152     Wien Hauptbahnhof                  0Wien Hbf         0                 0    0\
+00810001223007115  Wien Hbf         007120  Linz Hbf         01    +0 0 0";
+// The same, and the series stays.
+#[rattlefmt::skip]
+const LEFT_BEHIND: &str = "\
+30000025700002000010000009207320700812026010102\
+0081071200     Linz Hauptbahnhof                  0Linz Hbf         0                 0    0\
+0081071152     Wien Hauptbahnhof                  0Wien Hbf         0                 0    0\
+00810001203007115  Wien Hbf         007120  Linz Hbf         01    +0 0 0";
+
+// What becomes of a delivery.
+fn answer(rt: &LibcRuntime, delivery: &str) -> io::Result<()> {
+    let mut place = Delivery::empty();
+    match place.read(delivery.as_bytes()) {
+        Ok(()) => {
+            let head = place.head();
+            println!(rt, "  read {head}")
+        }
+        Err(fault) => println!(rt, "  refused {fault}"),
+    }
+}
+
 fn tell_head(rt: &LibcRuntime, text: &str, delivery: &str) -> io::Result<()> {
     println!(rt, "{text}")?;
     println!(rt, "  {delivery}")?;
-    match read_head(delivery.as_bytes()) {
-        Ok(head) => println!(rt, "  read {head}"),
-        Err(fault) => println!(rt, "  refused {fault}"),
-    }
+    answer(rt, delivery)
+}
+
+fn files(rt: &LibcRuntime) -> io::Result<()> {
+    println!(
+        rt,
+        "A whole delivery: Wien Hbf and the series from it to Linz Hbf leave together, and Linz Hbf stays:"
+    )?;
+    answer(rt, LEAVING)?;
+    println!(
+        rt,
+        "Had the series stayed, it would depart from a station that no buyer holds any more:"
+    )?;
+    answer(rt, LEFT_BEHIND)
 }
 
 fn heads(rt: &LibcRuntime) -> io::Result<()> {
@@ -131,6 +168,7 @@ fn rows(rt: &LibcRuntime) -> io::Result<()> {
 pub fn run(rt: &LibcRuntime) -> io::Result<Status> {
     heads(rt)?;
     rows(rt)?;
+    files(rt)?;
     println!(
         rt,
         "Each refusal tells its number and place, so that the carrier can repair the file."

@@ -2,9 +2,9 @@
 mod demo;
 mod status;
 
-use deliveries::fault::HeadFaultDisplay;
+use deliveries::delivery::Delivery;
+use deliveries::fault::DeliveryFaultDisplay;
 use deliveries::head::HeadDisplay;
-use deliveries::head::read_head;
 use status::Status;
 use std::env;
 use std::fs;
@@ -28,8 +28,10 @@ fn check(rt: &LibcRuntime, path: &str) -> io::Result<Status> {
             return Ok(Status::Failed);
         }
     };
-    match read_head(bytes.as_slice()) {
-        Ok(head) => {
+    let mut delivery = Delivery::empty();
+    match delivery.read(bytes.as_slice()) {
+        Ok(()) => {
+            let head = delivery.head();
             println!(rt, "{path}: read {head}")?;
             Ok(Status::Done)
         }
