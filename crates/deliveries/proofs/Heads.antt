@@ -23,6 +23,7 @@ use Rattle.fields.proofs.FirstFault.{checked-sound, kept-between, kept-tests}
 use Rattle.deliveries.specs.declared.fault.HeadFault.{HeadFault}
 use Rattle.deliveries.specs.declared.fault.HeadFault.the-variants.{Short, BrokenField, WrongSize}
 use Rattle.deliveries.specs.declared.head.Extent.{Extent}
+use Rattle.files.proofs.Firsts.{some-none}
 use Rattle.deliveries.specs.declared.head.Head.{Head}
 use Rattle.deliveries.specs.Head.{Bears, Kept, Whole, after-fields, all-rows, bytes-in, head-fault, head-table, no-context, right-size}
 
@@ -87,9 +88,6 @@ by-size bs h w a b c ea eb ec r e =
     let sum : a + b + c ≡ all-rows bs = rw (ea, eb, ec, w .bears .stations, w .bears .series, w .bears .tables) in
     let sized : r ≡ right-size bs = e ∙ rw sum in
     when-kept bs (w .long) (w .kept) ∙ ap (λ t. cond t None (Some WrongSize)) (sym sized)
-
-some-none : {A : Type 0} (x : A) → Some x ≡ None → ⊥
-some-none x e = let z : _≡_ {A = ℕ} 0 1 = cc in omega arith
 
 -- a head has no fault exactly where it keeps its rules
 pub kept-when-none : (bs : List ℕ) → head-fault bs ≡ None → Kept bs

@@ -1,40 +1,28 @@
 -- A series has no fault beside its stations exactly where it joins them.
-use mathlib.Core.Path.{_≡_, refl, sym, ap, subst, _∙_}
-use mathlib.Core.Bool.{Bool, true, false, cond, not, _&&_}
+use mathlib.Core.Path.{_≡_, refl, sym, ap, _∙_}
+use mathlib.Core.Bool.{Bool, true, false, cond, _&&_}
 use Prim.Native.Nat.{ℕ, zero, suc, _<_}
 use lib.Dec.{eqb}
 use native.Mathlib.Omega.{arith}
 use Rattle.std.specs.Options.{mapped}
-use Rattle.std.specs.shelf.Text.{sameBytes}
 use Rattle.std.specs.declared.option.Option.{Option}
 use Rattle.std.specs.declared.option.Option.the-variants.{Some, None}
-use Rattle.std.proofs.shelf.Equals.{sameBytes-decides}
-use Rattle.std.proofs.shelf.Tests.{and-left, and-parts, eq-eqb, eqb-true, false≢true, ne-eqb, not-from-true}
+use Rattle.std.proofs.shelf.Tests.{and-left, and-parts, eq-eqb, eqb-true, ne-eqb}
 use Rattle.fields.specs.Flags.{stays}
-use Rattle.fields.specs.declared.text.Text.{Text}
 use Rattle.kinds.specs.declared.series.End.{End}
 use Rattle.kinds.specs.declared.series.Series.{Series}
 use Rattle.kinds.specs.declared.station.Station.{Station}
-use Rattle.kinds.specs.Values.{texts-differ}
+use Rattle.kinds.specs.Taking.{same-text}
+use Rattle.kinds.proofs.Told.{text-same}
 use Rattle.files.specs.First.{at-index, first, or-else}
 use Rattle.files.proofs.Firsts.{first-some, some-none}
 use Rattle.deliveries.specs.declared.fault.AcrossFault.{AcrossFault}
-use Rattle.deliveries.specs.declared.fault.AcrossFault.the-variants.{NoStation, OtherDesignation}
+use Rattle.deliveries.specs.declared.fault.AcrossFault.the-variants.{OtherDesignation}
 use Rattle.deliveries.specs.Across.{Joins, end-fault, ends-fault, series-fault, stands, station-of}
 
 pub or-none : {A : Type 0} (a b : Option A) → or-else a b ≡ None → (a ≡ None) × (b ≡ None)
 or-none (Some x) b e = absurd (some-none x e)
 or-none None b e = (refl, e)
-
-same-text : {n : ℕ} (a b : Text n) → texts-differ a b ≡ false → a ≡ b
-same-text a b e = λ i. record { bytes = sameBytes-decides (a .bytes) (b .bytes) .0 (go (sameBytes (a .bytes) (b .bytes)) e) i }
-  where
-    go : (t : Bool) → not t ≡ false → t ≡ true
-    go true e = refl
-    go false e = sym e
-
-text-same : {n : ℕ} (a b : Text n) → a ≡ b → texts-differ a b ≡ false
-text-same a b e = not-from-true _ (sameBytes-decides (a .bytes) (b .bytes) .1 (λ i. e i .bytes))
 
 -- what stands at the first index
 first-at : {A : Type 0} (f : ℕ → Option A) (n : ℕ) (p : ℕ × A) → first f n ≡ Some p → (p .0 < n) × (f (p .0) ≡ Some (p .1))
