@@ -1,4 +1,6 @@
 // Tests of the book, as scripts of deliveries and questions.
+#![tactic(auto)]
+
 #[cfg(test)]
 mod answers;
 #[cfg(test)]

@@ -1,4 +1,6 @@
 // Tests of reading whole deliveries, as tables of cases.
+#![tactic(auto)]
+
 #[cfg(test)]
 mod cases;
 #[cfg(test)]

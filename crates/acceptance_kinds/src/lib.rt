@@ -1,4 +1,6 @@
 // Tests of the three kinds of record, as tables of cases.
+#![tactic(auto)]
+
 #[cfg(test)]
 mod fare_tables;
 #[cfg(test)]

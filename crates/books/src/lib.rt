@@ -1,3 +1,5 @@
+#![tactic(auto)]
+
 mod admission;
 pub mod book;
 pub mod fault;

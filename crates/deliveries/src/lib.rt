@@ -1,3 +1,5 @@
+#![tactic(auto)]
+
 mod across;
 pub mod delivery;
 pub mod fault;

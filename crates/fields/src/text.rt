@@ -1,17 +1,12 @@
 // Text of a fixed number of columns, byte for byte as the row has it.
 ghost use Rattle.fields.specs.Bytes.{text, trimmed};
-ghost use Rattle.std.specs.Cmp.Lexicographic.{Lex, LexSome};
-ghost use Rattle.std.specs.Prelude.{◌≡◌, ◌<◌, IsSomeAnd, Decides};
-ghost use Rattle.std.specs.Ordering.{MatchOrdering};
-ghost use Rattle.std.specs.Cmp.Rules.{comparing};
-ghost use Rattle.std.proofs.Common.{rules};
-ghost use Rattle.std.specs.Cmp as Keys;
+ghost use Rattle.std.specs.Prelude.{◌≡◌};
 
 use crate::bytes::BLANK;
-use std::cmp::Ordering;
 use std::fmt;
 
-#[derive(Clone, Copy)]
+// Compared byte by byte.
+#[derive(Clone, Copy, PartialEq, Eq, PartialOrd, Ord)]
 pub struct Text<const N: usize> {
     bytes: [u8; N],
 }
@@ -58,43 +53,5 @@ impl<const N: usize> fmt::Display for Text<N> {
             f.write_char(char::from(*byte))?;
         }
         Ok(())
-    }
-}
-
-impl<const N: usize> PartialEq for Text<N> {
-    ghost equals = { λ x y r. Decides r (x ≡ y) };
-
-    ghost laws = { Keys.partial_equiv_from_equiv (Prim.search (comparing, rules)) };
-
-    fn eq(&self, other: &Text<N>) -> bool {
-        self.bytes == other.bytes
-    }
-}
-
-impl<const N: usize> Eq for Text<N> {
-    ghost laws = { Prim.search (comparing, rules) };
-}
-
-impl<const N: usize> PartialOrd for Text<N> {
-    ghost compares = { λ x y. LexSome (λ a b r. IsSomeAnd r (λ o. MatchOrdering o (a < b) (a ≡ b) (b < a))) x.bytes y.bytes };
-
-    ghost laws = { Prim.search (comparing, rules) };
-
-    fn partial_cmp(&self, other: &Text<N>) -> Option<Ordering> {
-        self.bytes.partial_cmp(&other.bytes)
-    }
-}
-
-impl<const N: usize> Ord for Text<N> {
-    ghost orders = { λ x y. Lex (λ a b o. MatchOrdering o (a < b) (a ≡ b) (b < a)) x.bytes y.bytes };
-
-    ghost total = { Prim.search (comparing, rules) };
-
-    ghost matches_partial_cmp = { Prim.search (comparing, rules) };
-
-    ghost matches_eq = { Prim.search (comparing, rules) };
-
-    fn cmp(&self, other: &Text<N>) -> Ordering {
-        self.bytes.cmp(&other.bytes)
     }
 }

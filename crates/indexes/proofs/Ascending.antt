@@ -6,7 +6,7 @@ use Rattle.std.proofs.lemmas.List.MinMax.{ranks_by}
 use Rattle.std.proofs.lemmas.List.Sorted.{sorted_far}
 use Rattle.std.proofs.lemmas.Bool.{ltb-false, true≢false}
 use Rattle.indexes.specs.declared.Place.{Place}
-use Rattle.indexes.specs.Places.{SameNumber, SortedPlaces, by_place}
+use Rattle.indexes.specs.Places.{SameNumber, SortedPlaces, by_place, place_cmp}
 
 -- a row that does not come before another is not lower
 row_order : (x y : ℕ) → is_lt (nat_cmp x y) ≡ false → y ≤ x
@@ -24,7 +24,7 @@ module _ {N : Type 0} {R : N → N → Ordering} (o : IsTotalOrder R) where
   pub never_less : (m n : N) → SameNumber o m n → R m n ≡ Less → ⊥
   never_less m n e l = true≢false (ap is_eq (sym e ∙ l))
 
-  pub up_to : (p q : Place N) → is_lt ((by_place o).cmp q p) ≡ false → UpTo p q
+  pub up_to : (p q : Place N) → is_lt (place_cmp R q p) ≡ false → UpTo p q
   up_to p q h = go (R q.number p.number) refl h
     where
       go : (r : Ordering) → R q.number p.number ≡ r → is_lt (ordering_then r (nat_cmp q.row p.row)) ≡ false → UpTo p q
@@ -35,7 +35,7 @@ module _ {N : Type 0} {R : N → N → Ordering} (o : IsTotalOrder R) where
   pub far : (ps : List (Place N)) → SortedPlaces o ps → (i j : ℕ) (d : Place N) → i ≤ j → j < length ps → UpTo (get_or ps i d) (get_or ps j d)
   far ps up i j d le lt =
       up_to (get_or ps i d) (get_or ps j d)
-      (sorted_far (λ x y. is_lt ((by_place o).cmp x y)) (ranks_by (by_place o) (λ p. p)) ps up i j d le lt)
+      (sorted_far (λ x y. is_lt (place_cmp R x y)) (ranks_by (by_place o) (λ p. p)) ps up i j d le lt)
 
   -- a place between two of one number has that number
   module _ (p m q : Place N) (same : SameNumber o p.number q.number) where

@@ -11,7 +11,7 @@ use Rattle.std.proofs.lemmas.List.{get_or_default}
 use Rattle.std.proofs.lemmas.List.Sorted.{searchable_from_sorted}
 use Rattle.std.proofs.lemmas.Bool.{cases_lt, true≢false}
 use Rattle.indexes.specs.declared.Place.{Place}
-use Rattle.indexes.specs.Places.{Least, SameNumber, SortedPlaces, Stands, by_place}
+use Rattle.indexes.specs.Places.{Least, SameNumber, SortedPlaces, Stands, by_place, place_cmp}
 use Rattle.indexes.specs.Steps.{StandsAt}
 use Rattle.indexes.proofs.Ascending.{UpTo, far}
 
@@ -27,7 +27,7 @@ rows_say : (x y : ℕ) (r : Ordering) → nat_cmp x y ≡ r → MatchOrdering r 
 rows_say x y r e = subst (λ t. MatchOrdering t (x < y) (x ≡ y) (y < x)) e (ranks x y)
 
 module _ {N : Type 0} {R : N → N → Ordering} (o : IsTotalOrder R) (n : N) where
-  found : (p : Place N) → (by_place o).cmp p (row_0 n) ≡ Equal → SameNumber o p.number n × (p.row ≡ 0)
+  found : (p : Place N) → place_cmp R p (row_0 n) ≡ Equal → SameNumber o p.number n × (p.row ≡ 0)
   found p e = go (R p.number n) refl e
     where
       go : (r : Ordering) → R p.number n ≡ r → ordering_then r (nat_cmp p.row 0) ≡ Equal → SameNumber o p.number n × (p.row ≡ 0)
@@ -35,12 +35,12 @@ module _ {N : Type 0} {R : N → N → Ordering} (o : IsTotalOrder R) (n : N) wh
       go Equal same h = (same, rows_say p.row 0 Equal h)
       go Greater same h = absurd (true≢false (ap is_gt h))
 
-  not_before : (p : Place N) → (by_place o).cmp p (row_0 n) ≡ Less → SameNumber o p.number n → ⊥
+  not_before : (p : Place N) → place_cmp R p (row_0 n) ≡ Less → SameNumber o p.number n → ⊥
   not_before p e same =
       let h : nat_cmp p.row 0 ≡ Less = sym (ap (λ r. ordering_then r (nat_cmp p.row 0)) same) ∙ e in
       omega (arith, rows_say p.row 0 Less h)
 
-  not_after : (p : Place N) → (by_place o).cmp p (row_0 n) ≡ Greater → R p.number n ≡ Less → ⊥
+  not_after : (p : Place N) → place_cmp R p (row_0 n) ≡ Greater → R p.number n ≡ Less → ⊥
   not_after p e less = true≢false (ap is_lt (sym (ap (λ r. ordering_then r (nat_cmp p.row 0)) less) ∙ e))
 
   module _ (ps : List (Place N)) where
@@ -50,11 +50,11 @@ module _ {N : Type 0} {R : N → N → Ordering} (o : IsTotalOrder R) (n : N) wh
         (j : ℕ) (d : Place N) → j < length ps → SameNumber o (get_or ps j d).number n →
         (i < length ps) × SameNumber o (get_or ps i d).number n × ((get_or ps i d).row ≤ (get_or ps j d).row)
 
-    lowest_found : (i : ℕ) → i < length ps → HoldsAt (λ p. (by_place o).cmp p (row_0 n) ≡ Equal) ps i → Lowest i
+    lowest_found : (i : ℕ) → i < length ps → HoldsAt (λ p. place_cmp R p (row_0 n) ≡ Equal) ps i → Lowest i
     lowest_found i lt at j d _ _ = let e = found (get_or ps i d) (at d) in (lt, e.0, omega (arith, e.1))
 
     module _ (up : SortedPlaces o ps) (i : ℕ) where
-      lowest_missed : IsPartitionPoint (λ p. (by_place o).cmp p (row_0 n) ≡ Less) (λ p. (by_place o).cmp p (row_0 n) ≡ Greater) ps i → Lowest i
+      lowest_missed : IsPartitionPoint (λ p. place_cmp R p (row_0 n) ≡ Less) (λ p. place_cmp R p (row_0 n) ≡ Greater) ps i → Lowest i
       lowest_missed parts j d lt same =
           elim (cases_lt j i) [
             | inl l ↦ absurd (not_before (get_or ps j d) (parts.0 j d (omega arith) l) same)
@@ -67,13 +67,13 @@ module _ {N : Type 0} {R : N → N → Ordering} (o : IsTotalOrder R) (n : N) wh
 
       pub lowest_located :
           (r : Result ℕ ℕ) → (r ≡ Ok i) ⊎ (r ≡ Err i) → Results.MatchResult r (λ k. k < length ps) (λ k. k ≤ length ps) →
-          IsBinarySearchResult (λ p. (by_place o).cmp p (row_0 n)) ps r → Lowest i
+          IsBinarySearchResult (λ p. place_cmp R p (row_0 n)) ps r → Lowest i
       lowest_located r (inl e) bound at =
           lowest_found i
           (subst (λ t. Results.MatchResult t (λ k. k < length ps) (λ k. k ≤ length ps)) e bound)
-          (subst (IsBinarySearchResult (λ p. (by_place o).cmp p (row_0 n)) ps) e at)
+          (subst (IsBinarySearchResult (λ p. place_cmp R p (row_0 n)) ps) e at)
       lowest_located r (inr e) bound at =
-          lowest_missed (subst (IsBinarySearchResult (λ p. (by_place o).cmp p (row_0 n)) ps) e at (searchable_from_sorted (by_place o) (λ p. p) ps (row_0 n) up))
+          lowest_missed (subst (IsBinarySearchResult (λ p. place_cmp R p (row_0 n)) ps) e at (searchable_from_sorted (by_place o) (λ p. p) ps (row_0 n) up))
 
     module _ (i : ℕ) (low : Lowest i) where
       lowest_of : (k : ℕ) (s : Stands o ps n k) → (i < length ps) × SameNumber o (get_or ps i s.0).number n × ((get_or ps i s.0).row ≤ k)

@@ -4,9 +4,8 @@
 use Rattle.std.specs.Prelude.{◌≡◌, ℕ, ◌<◌, ◌≤◌, List, length, Option, MatchOption}
 use Rattle.std.specs.declared.cmp.Ordering.TheVariants.{Equal}
 use Rattle.std.specs.declared.cmp.Ordering.{Ordering}
-use Rattle.std.specs.Cmp.Derive.{Lex, fields, on}
-use Rattle.std.specs.Cmp.{IsTotalOrder, nat_cmp_total}
-use Rattle.std.specs.Ordering.{MatchOrdering, is_lt}
+use Rattle.std.specs.Cmp.{IsTotalOrder, nat_cmp_total, on_total, then_total}
+use Rattle.std.specs.Ordering.{is_lt, nat_cmp, ordering_then}
 use Rattle.std.specs.List.Sorted.{IsSortedWithin}
 use Rattle.std.specs.List.{ContainsAt as Has}
 use Rattle.indexes.specs.declared.Place.{Place}
@@ -15,17 +14,16 @@ use Rattle.indexes.specs.declared.Place.{Place}
 abbrev pub Least : (ℕ → Type 0) → Option ℕ → Type 0
 Least P r = MatchOption r ((k : ℕ) → P k → ⊥) (λ k. P k × ((j : ℕ) → P j → k ≤ j))
 
--- what the order of places may answer, where R is what the order of numbers may
-abbrev pub ranks_places : {N : Type 0} → (N → N → Ordering → Type 0) → Place N → Place N → Ordering → Type 0
-ranks_places R x y = Lex (R x.number y.number) (λ r. MatchOrdering r (x.row < y.row) (x.row ≡ y.row) (y.row < x.row))
+-- by number, as R compares numbers, and then by row
+abbrev pub place_cmp : {N : Type 0} → (N → N → Ordering) → Place N → Place N → Ordering
+place_cmp R x y = ordering_then (R x.number y.number) (nat_cmp x.row y.row)
 
 module _ {N : Type 0} {R : N → N → Ordering} (o : IsTotalOrder R) where
-  -- by number, and then by row
-  abbrev pub by_place : IsTotalOrder (ranks_places R)
-  by_place = on (λ p. (p.number, p.row)) (fields o nat_cmp_total)
+  abbrev pub by_place : IsTotalOrder (place_cmp R)
+  by_place = then_total (on_total (λ p. p.number) o) (on_total (λ p. p.row) nat_cmp_total)
 
   abbrev pub SortedPlaces : List (Place N) → Type 0
-  SortedPlaces ps = IsSortedWithin (λ x y. is_lt (by_place.cmp x y)) ps 0 (length ps)
+  SortedPlaces ps = IsSortedWithin (λ x y. is_lt (place_cmp R x y)) ps 0 (length ps)
 
   abbrev pub SameNumber : N → N → Type 0
   SameNumber m n = R m n ≡ Equal

@@ -1,4 +1,6 @@
 // The numbers of a file's rows, each with its row: which row has a number, and whether a number comes twice.
+#![tactic(auto)]
+
 ghost use Rattle.std.specs.Prelude.{◌≡◌, ℕ, min, length, Decides, MatchOption, slice_set};
 ghost use Rattle.indexes.specs.Places.{Follows, Least, Repeats, SortedPlaces, Stands};
 ghost use Rattle.indexes.specs.Steps.{RepeatsNext, StandsAt};
@@ -59,13 +61,13 @@ pub fn first_repeat<N: Ord + Copy>(places: &mut [Place<N>]) -> Option<u32>
     ensures sorted { (o : IsTotalOrder N.Ord.cmp) → SortedPlaces o places.new }
     ensures first { (o : IsTotalOrder N.Ord.cmp) → Least (Repeats o places.old) result }
 {
-    places.sort();
+    places.sort_unstable();
     least_repeat(places)
 }
 
 // The row of the place at i, if there is one and it has the number.
 fn row_at<N: Ord>(places: &[Place<N>], i: usize, number: &N) -> Option<u32>
-    ensures { MatchOption result ((k : ℕ) → StandsAt o places.now number.now i k → ⊥) (StandsAt o places.now number.now i) }
+    ensures { (o : IsTotalOrder N.Ord.cmp) → MatchOption result ((k : ℕ) → StandsAt o places.now number.now i k → ⊥) (StandsAt o places.now number.now i) }
 {
     match places.get(i) {
         Some(place) if place.number.cmp(number).is_eq() => Some(place.row),

@@ -1,4 +1,6 @@
 // The intake of rail tariff deliveries, on the command line.
+#![tactic(auto)]
+
 mod demo;
 mod script;
 mod session;

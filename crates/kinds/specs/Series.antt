@@ -1,7 +1,8 @@
 -- Series: their columns, their cover, and what they mean.
 use Rattle.std.specs.Prelude.{◌≡◌, ℕ, Bool, true, false, cond, List, [], ◌∷◌, ◌==◌, refl}
-use Rattle.std.specs.Cmp.Derive.{Lex, fields, on}
-use Rattle.std.specs.Cmp.{IsTotalOrder, nat_cmp_total}
+use Rattle.std.specs.Cmp.{IsTotalOrder, nat_cmp_total, on_total, then_total}
+use Rattle.std.specs.Ordering.{nat_cmp, ordering_then}
+use Rattle.std.specs.declared.cmp.Ordering.{Ordering}
 use Rattle.fields.specs.declared.rule.Content.TheVariants.{Any, Between, Amendment, Sign, Supplier}
 use Rattle.fields.specs.declared.rule.Field.{Field}
 use Rattle.fields.specs.declared.rule.FieldType.TheVariants.{Alphanumeric, Numeric}
@@ -20,7 +21,7 @@ use Rattle.kinds.specs.declared.series.SeriesType.{SeriesType}
 use Rattle.kinds.specs.declared.series.SeriesType.TheVariants.{Transit, Border, Stations}
 use Rattle.kinds.specs.Cover.{TrueFlags, differs_under, line}
 use Rattle.kinds.specs.Meaning.{Meaning}
-use Rattle.kinds.specs.Orders.{apart_numbers, by_text, order_of, ranks, ranks_text}
+use Rattle.kinds.specs.Orders.{apart_numbers, by_text, order_of, text_cmp}
 use Rattle.kinds.specs.Taking.{Reaches, Spared, same_number, spares, takes, takes_number, takes_sign, takes_text}
 use Rattle.kinds.specs.Values.{flag_in, number_in, numbers_differ, row_context, sign_in, signs_differ, taken, text_in, texts_differ}
 
@@ -240,8 +241,17 @@ series_takes_all t r h =
     by f flag = spares flag f series_lines (series_marks t r)
 
 -- the four parts in turn
-abbrev pub by_key : IsTotalOrder (λ (x y : SeriesKey). Lex (ranks x.series_type y.series_type) (Lex (ranks_text x.departure y.departure) (Lex (ranks_text x.destination y.destination) (ranks x.route_number y.route_number))))
-by_key = on (λ k. (k.series_type, (k.departure, (k.destination, k.route_number)))) (fields nat_cmp_total (fields (by_text 17) (fields (by_text 17) nat_cmp_total)))
+abbrev pub series_key_cmp : SeriesKey → SeriesKey → Ordering
+series_key_cmp x y =
+    ordering_then (nat_cmp x.series_type y.series_type)
+    (ordering_then (text_cmp x.departure y.departure)
+    (ordering_then (text_cmp x.destination y.destination) (nat_cmp x.route_number y.route_number)))
+
+abbrev pub by_key : IsTotalOrder series_key_cmp
+by_key =
+    then_total (on_total (λ k. k.series_type) nat_cmp_total)
+    (then_total (on_total (λ k. k.departure) (by_text 17))
+    (then_total (on_total (λ k. k.destination) (by_text 17)) (on_total (λ k. k.route_number) nat_cmp_total)))
 
 abbrev pub series_meaning : Meaning Series SeriesTold ℕ SeriesKey
 series_meaning =

@@ -1,3 +1,5 @@
+#![tactic(auto)]
+
 pub mod cover;
 pub mod fare_table;
 pub mod kind;

@@ -1,5 +1,5 @@
 // A series: a numbered route between two stations.
-ghost use Rattle.kinds.specs.Series.{end_columns, series_flags, series_in, series_lines, series_marks, series_meaning, series_table, series_told, series_type_of, type_number, by_key};
+ghost use Rattle.kinds.specs.Series.{end_columns, series_flags, series_in, series_lines, series_marks, series_meaning, series_table, series_told, series_type_of, type_number};
 ghost use Rattle.std.specs.Prelude.{◌≡◌, ◌+◌, ◌≤◌};
 ghost use Rattle.std.proofs.Common.{rules};
 
@@ -270,7 +270,7 @@ impl Kind for Series {
 
     ghost numbered = { Prim.search rules };
 
-    ghost ordered = { by_key.says };
+    ghost ordered = { λ x y r e. e };
 
     fn values(supplier: u32, row: &[u8]) -> Series {
         record_in(supplier, row)

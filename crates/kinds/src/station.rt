@@ -1,7 +1,6 @@
 // A station of a carrier's network.
 ghost use Rattle.kinds.specs.Station.{flag_columns, station_in, station_lines, station_marks, station_meaning, station_table, told_columns};
 ghost use Rattle.std.specs.Prelude.{◌≡◌};
-ghost use Rattle.kinds.specs.Orders.{by_text};
 ghost use Rattle.std.proofs.Common.{rules};
 
 use crate::cover::{Cover, Line, first_fault};
@@ -157,7 +156,7 @@ impl Kind for Station {
 
     ghost numbered = { Prim.search rules };
 
-    ghost ordered = { (by_text 17).says };
+    ghost ordered = { λ x y r e. e };
 
     fn values(supplier: u32, row: &[u8]) -> Station {
         record_in(supplier, row)

@@ -7,8 +7,8 @@ use Rattle.books.proofs.join.join_among.Goals as goal
 
 pub loop-entry-preserved : goal.loop-entry-preserved
 loop-entry-preserved c =
-    fold_more (with_series c.args.one c.args.other) None c.args.own.now c.loop-entry.entry-index _ c.loop-entry.best c.with-series-best.result
-    c.loop-entry-test.true c.loop-entry.invariant c.with-series-best.ensures
+    fold_more (with_series c.args.one c.args.other) None c.args.own.now c.loop-entry.entry-index _ c.loop-entry.best c.with_series-best.result
+    c.loop-entry-test.true c.loop-entry.invariant c.with_series-best.ensures
 
 pub returns-in-Some : goal.returns-in-Some
 returns-in-Some c =

@@ -25,7 +25,7 @@ loop-i-preserved c =
     let series = c.args.series.now in
     let at : Series → Option AcrossFault = series_fault (record_at station_meaning stations.supplier (row_in stations)) (length c.args.places.now) in
     below_more (λ k. at (record_at series_meaning series.supplier (row_in series) k) ≡ None) c.loop-i.i c.loop-i.invariant
-    (ap at (sym c.record-record.ensures) ∙ sym c.in-default.ensures)
+    (ap at (sym c.record-record.ensures) ∙ sym c.in_default.ensures)
 
 pub returns : goal.returns
 returns c =

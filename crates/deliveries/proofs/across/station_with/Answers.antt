@@ -5,12 +5,12 @@ use Rattle.files.specs.Rows.{row_in}
 use Rattle.deliveries.proofs.Ends.{found_gone, found_staying, none_found}
 use Rattle.deliveries.proofs.across.station_with.Goals as goal
 
-pub returns-in-err-row : goal.returns-in-err-row
-returns-in-err-row c =
+pub returns-in_err-row : goal.returns-in_err-row
+returns-in_err-row c =
     let rows = c.args.stations.now in
-    c.from-residual.ensures
+    c.from_residual.ensures
     ∙ (sym (none_found rows.supplier (row_in rows) _ c.args.places.now c.requires.index c.requires.sound c.args.code
-    (c.in-err-row.ensures nat_cmp_total c.requires.sorted)))
+    (c.in_err-row.ensures nat_cmp_total c.requires.sorted)))
 
 pub returns-then-stays : goal.returns-then-stays
 returns-then-stays c =
@@ -18,11 +18,11 @@ returns-then-stays c =
     let stay = ap (λ r. stays r.key_flag) (sym c.record-station.ensures) ∙ sym c.if-stays.ensures in
     ap Some c.record-station.ensures
     ∙ (sym (found_staying rows.supplier (row_in rows) _ c.args.places.now c.requires.index c.requires.sound c.args.code
-    c.in-ok-row.row (c.in-ok-row.ensures nat_cmp_total c.requires.sorted) stay))
+    c.in_ok-row.row (c.in_ok-row.ensures nat_cmp_total c.requires.sorted) stay))
 
 pub returns-else-stays : goal.returns-else-stays
 returns-else-stays c =
     let rows = c.args.stations.now in
     let leave = ap (λ r. stays r.key_flag) (sym c.record-station.ensures) ∙ sym c.if-stays.ensures in
     (sym (found_gone rows.supplier (row_in rows) _ c.args.places.now c.requires.index c.requires.sound c.args.code
-    c.in-ok-row.row (c.in-ok-row.ensures nat_cmp_total c.requires.sorted) leave))
+    c.in_ok-row.row (c.in_ok-row.ensures nat_cmp_total c.requires.sorted) leave))

@@ -13,7 +13,7 @@ loop-byte-preserved c =
     let i = c.loop-byte.byte-index in
     let more = value_more c.args.bytes.now i (omega arith) in
     let tens : 10 ^ (i + 1) ≡ 10 ^ i * 10 = rw add-one (pow-suc 10 i) in
-    omega (arith, more, c.type-inv.bytes i, tens)
+    omega (arith, more, c.type_inv.bytes i, tens)
 
 pub returns : goal.returns
 returns c =

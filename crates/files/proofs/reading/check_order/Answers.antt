@@ -2,16 +2,16 @@ use Rattle.std.proofs.Common.{true, false, sym, refl, ap, ◌∙◌}
 use Rattle.files.proofs.Judged.{judged_by, total_of}
 use Rattle.files.proofs.reading.check_order.Goals as goal
 
-pub returns-then-comes-later : goal.returns-then-comes-later
-returns-then-comes-later g c =
+pub returns-then-comes_later : goal.returns-then-comes_later
+returns-then-comes_later g c =
     let m = g.K.Kind.meaning in
     judged_by m c.args.before.now c.in-Some.key c.order.result c.args.after.now c.record_number.result true
     c.in-Some.is c.order.ensures (c.record_number.ensures ∙ ap m.record_number c.number.ensures)
-    (c.if-comes-later.ensures (total_of m.file_order g.met.K.Kind.ordered))
+    (c.if-comes_later.ensures (total_of m.file_order g.met.K.Kind.ordered))
 
-pub returns-else-comes-later : goal.returns-else-comes-later
-returns-else-comes-later g c =
+pub returns-else-comes_later : goal.returns-else-comes_later
+returns-else-comes_later g c =
     let m = g.K.Kind.meaning in
     judged_by m c.args.before.now c.in-Some.key c.order.result c.args.after.now _ false
     c.in-Some.is c.order.ensures refl
-    (c.if-comes-later.ensures (total_of m.file_order g.met.K.Kind.ordered))
+    (c.if-comes_later.ensures (total_of m.file_order g.met.K.Kind.ordered))

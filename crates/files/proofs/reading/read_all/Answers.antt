@@ -38,19 +38,19 @@ returns-in-None g c =
     let long : c.scan-read.result.0 ≤ length c.scan-read.new.places = omega (arith, c.scan-read.ensures.scanned.most) in
     let none =
     when_all m rows.supplier (row_in rows) c.scan-read.result.0 c.scan-read.new.places long c.scan-read.ensures.noted
-    o (λ x y. refl) (length c.args.places.now) c.scan-read.result.1 c.scan-read.ensures.scanned c.in-None.is (c.in-default.ensures.first o) in
+    o (λ x y. refl) (length c.args.places.now) c.scan-read.result.1 c.scan-read.ensures.scanned c.in-None.is (c.in_default.ensures.first o) in
     let ps = c.scan-read.new.places in
-    let qs = c.first-repeat.new.places in
+    let qs = c.first_repeat.new.places in
     let all : c.scan-read.result.0 ≡ length c.args.places.now = MatchOption-at_none _ _ c.in-None.is c.scan-read.ensures.scanned.next in
     let places : Indexed m rows.supplier (row_in rows) c.scan-read.result.0 qs =
-    indexed m rows.supplier (row_in rows) c.scan-read.result.0 ps long c.scan-read.ensures.noted qs c.in-default.ensures.same in
+    indexed m rows.supplier (row_in rows) c.scan-read.result.0 ps long c.scan-read.ensures.noted qs c.in_default.ensures.same in
     let rest = no_rest c.scan-read.result.0 ps qs (omega (arith, all)) in
     record {
       first = ap told (sym none);
       index = λ _. (
         subst (λ x. Indexed m rows.supplier (row_in rows) (length c.args.places.now) x) (sym rest)
             (subst (λ n. Indexed m rows.supplier (row_in rows) n qs) all places),
-        λ o. subst (λ x. SortedPlaces o x) (sym rest) (c.in-default.ensures.sorted o),
+        λ o. subst (λ x. SortedPlaces o x) (sym rest) (c.in_default.ensures.sorted o),
       );
     }
 
@@ -62,5 +62,5 @@ returns-in-Some-fault g c =
     let long : c.scan-read.result.0 ≤ length c.scan-read.new.places = omega (arith, c.scan-read.ensures.scanned.most) in
     let fault =
     when_next m rows.supplier (row_in rows) c.scan-read.result.0 c.scan-read.new.places long c.scan-read.ensures.noted
-    o (λ x y. refl) (length c.args.places.now) c.scan-read.result.1 c.scan-read.ensures.scanned _ c.in-Some-fault.is (c.in-default.ensures.first o) in
+    o (λ x y. refl) (length c.args.places.now) c.scan-read.result.1 c.scan-read.ensures.scanned _ c.in-Some-fault.is (c.in_default.ensures.first o) in
     record { first = ap told (sym fault); index = λ e. absurd (false≢true e) }

@@ -26,8 +26,8 @@ loop-i-preserved g c =
     let s = rows.supplier in
     let row = row_in rows in
     let i = c.loop-i.i in
-    let r = c.read-row.new.into in
-    let read : Read m s (row i) c.loop-i.before r = c.in-default.ensures in
+    let r = c.read_row.new.into in
+    let read : Read m s (row i) c.loop-i.before r = c.in_default.ensures in
     let long : i < length c.loop-i.places = omega arith in
     let number = c.number.ensures ∙ ap m.number (sym (record_is m s row i r read.is_read)) in (
       ap Some c.order.ensures ∙ key_more m s row i r read.is_read,

@@ -4,7 +4,7 @@ use Rattle.kinds.specs.declared.cover.Line.{Line}
 use Rattle.kinds.specs.Cover.{covered_by, differs_under, line}
 use Rattle.kinds.proofs.Walks.{both_more, first_done, second_done}
 use Rattle.kinds.proofs.cover.differs_under.Goals as goal
-use Rattle.kinds.proofs.cover.differs_under.Goals.{else-is-by-via-then-is-by+else-marks-i, else-is-by-via-else-is-by}
+use Rattle.kinds.proofs.cover.differs_under.Goals.{else-is_by-via-then-is_by+else-marks-i, else-is_by-via-else-is_by}
 
 pub returns-then-i-marks : goal.returns-then-i-marks
 returns-then-i-marks c =
@@ -19,7 +19,7 @@ returns-then-marks-i c =
     let i = c.loop-i.i in
     let step : differs_under f (drop i ls) (drop i ms) ≡ ((covered_by f (get_or ls i (line 0 (By 0))).cover && get_or ms i false) || differs_under f (drop (i + 1) ls) (drop (i + 1) ms)) =
     both_more (differs_under f) ls ms i (line 0 (By 0)) false c.loop-i-test.true c.if-i-marks.false in
-    let by = c.if-is-by.ensures in
+    let by = c.if-is_by.ensures in
     grind arith
 
 pub loop-i-preserved : goal.loop-i-preserved
@@ -30,9 +30,9 @@ loop-i-preserved c =
     let i = c.loop-i.i in
     let step : differs_under f (drop i ls) (drop i ms) ≡ ((covered_by f (get_or ls i (line 0 (By 0))).cover && get_or ms i false) || differs_under f (drop (i + 1) ls) (drop (i + 1) ms)) =
     both_more (differs_under f) ls ms i (line 0 (By 0)) false c.loop-i-test.true c.if-i-marks.false in
-    elim c.else-is-by.branch [
-      | else-is-by-via-then-is-by+else-marks-i w ↦ grind arith
-      | else-is-by-via-else-is-by w ↦ grind arith
+    elim c.else-is_by.branch [
+      | else-is_by-via-then-is_by+else-marks-i w ↦ grind arith
+      | else-is_by-via-else-is_by w ↦ grind arith
     ]
 
 pub returns : goal.returns

@@ -10,13 +10,13 @@ returns-then-i-marks c =
     sym (second_done (first_line p) c.args.lines.now c.args.marks.now c.loop-i.i (line 0 (By 0)) c.loop-i-test.true c.if-i-marks.true)
     ∙ c.loop-i.invariant
 
-pub returns-then-is-at-fault : goal.returns-then-is-at-fault
-returns-then-is-at-fault c =
+pub returns-then-is_at_fault : goal.returns-then-is_at_fault
+returns-then-is_at_fault c =
     let ls = c.args.lines.now in
     let ms = c.args.marks.now in
     let i = c.loop-i.i in
     let p = is_at_fault c.args.key_flag ls ms in
-    ap (λ t. cond t (Some (get_or ls i (line 0 (By 0))).number) (first_line p (drop (i + 1) ls) (drop (i + 1) ms))) c.if-is-at-fault.ensures
+    ap (λ t. cond t (Some (get_or ls i (line 0 (By 0))).number) (first_line p (drop (i + 1) ls) (drop (i + 1) ms))) c.if-is_at_fault.ensures
     ∙ (sym (both_more (first_line p) ls ms i (line 0 (By 0)) false c.loop-i-test.true c.if-i-marks.false) ∙ c.loop-i.invariant)
 
 pub loop-i-preserved : goal.loop-i-preserved
@@ -25,7 +25,7 @@ loop-i-preserved c =
     let ms = c.args.marks.now in
     let i = c.loop-i.i in
     let p = is_at_fault c.args.key_flag ls ms in
-    ap (λ t. cond t (Some (get_or ls i (line 0 (By 0))).number) (first_line p (drop (i + 1) ls) (drop (i + 1) ms))) c.if-is-at-fault.ensures
+    ap (λ t. cond t (Some (get_or ls i (line 0 (By 0))).number) (first_line p (drop (i + 1) ls) (drop (i + 1) ms))) c.if-is_at_fault.ensures
     ∙ (sym (both_more (first_line p) ls ms i (line 0 (By 0)) false c.loop-i-test.true c.if-i-marks.false) ∙ c.loop-i.invariant)
 
 pub returns : goal.returns

@@ -6,18 +6,18 @@ use Rattle.files.specs.Rows.{row_in}
 use Rattle.registers.proofs.Rows.{row_judged}
 use Rattle.registers.proofs.check.check_row.Goals as goal
 
-pub returns-in-err-check-entry : goal.returns-in-err-check-entry
-returns-in-err-check-entry g c =
+pub returns-in_err-check_entry : goal.returns-in_err-check_entry
+returns-in_err-check_entry g c =
     let m = g.K.Kind.meaning in
     let rows = c.args.rows.now in
-    let p = err_from_is_err_and c.from-residual.result c.from-residual.ensures.1 in
+    let p = err_from_is_err_and c.from_residual.result c.from_residual.ensures.1 in
     rw (p.1, p.2)
     (record {
       number = tt;
-      first = λ up. c.in-err-check-entry.ensures
+      first = λ up. c.in_err-check_entry.ensures
           ∙ row_judged m rows.supplier c.args.year (record_at m rows.supplier (row_in rows)) c.args.entries.now c.args.i
-          c.record-newer.result c.number-number.result c.standing-of.result c.record-newer.ensures c.number-number.ensures
-          (c.standing-of.ensures (total_of m.numbers g.met.K.Kind.numbered) up);
+          c.record-newer.result c.number-number.result c.standing_of.result c.record-newer.ensures c.number-number.ensures
+          (c.standing_of.ensures (total_of m.numbers g.met.K.Kind.numbered) up);
     })
 
 pub returns : goal.returns
@@ -26,8 +26,8 @@ returns g c =
     let rows = c.args.rows.now in
     record {
       number = c.number-number.ensures ∙ ap m.number c.record-newer.ensures;
-      first = λ up. c.in-ok-check-entry.ensures
+      first = λ up. c.in_ok-check_entry.ensures
           ∙ row_judged m rows.supplier c.args.year (record_at m rows.supplier (row_in rows)) c.args.entries.now c.args.i
-          c.record-newer.result c.number-number.result c.standing-of.result c.record-newer.ensures c.number-number.ensures
-          (c.standing-of.ensures (total_of m.numbers g.met.K.Kind.numbered) up);
+          c.record-newer.result c.number-number.result c.standing_of.result c.record-newer.ensures c.number-number.ensures
+          (c.standing_of.ensures (total_of m.numbers g.met.K.Kind.numbered) up);
     }

@@ -11,21 +11,21 @@ use Rattle.registers.specs.Indexes.{Index}
 use Rattle.registers.proofs.Verdict.{fits_same}
 use Rattle.registers.proofs.check.check_run.Goals as goal
 
-pub returns-in-err-stay : goal.returns-in-err-stay
-returns-in-err-stay g c =
+pub returns-in_err-stay : goal.returns-in_err-stay
+returns-in_err-stay g c =
     let m = g.K.Kind.meaning in
     let rows = c.args.rows.now in
     let s = rows.supplier in
     let r = record_at m s (row_in rows) in
     let es = c.args.entries.now in
     let ps = c.args.places.now in
-    let p = err_from_is_err_and c.from-residual.result c.from-residual.ensures.1 in
+    let p = err_from_is_err_and c.from_residual.result c.from_residual.ensures.1 in
     rw (p.1, p.2)
     (record {
       first = λ within few up.
           let a : c.min-used.result ≡ c.args.used = omega (arith, c.min-used.ensures) in
           let b : length (take (c.min-n.result - 0) ps) ≡ length ps = length-take (c.min-n.result - 0) ps ∙ omega (arith, c.min-n.ensures) in
-          (λ i. register_fault m s r (take (sym a i) es) c.args.year (sym b i)) ∙ c.in-err-stay.ensures.first (subst (λ n. Ascending m.numbers (take n es)) (sym a) up);
+          (λ i. register_fault m s r (take (sym a i) es) c.args.year (sym b i)) ∙ c.in_err-stay.ensures.first (subst (λ n. Ascending m.numbers (take n es)) (sym a) up);
       index = λ few e. absurd (false≢true e);
     })
 
@@ -37,21 +37,21 @@ returns g c =
     let r = record_at m s (row_in rows) in
     let es = c.args.entries.now in
     let ps = c.args.places.now in
-    let qs = c.check-file.new.places in
+    let qs = c.check_file.new.places in
     record {
       first = λ within few up.
           let a : c.min-used.result ≡ c.args.used = omega (arith, c.min-used.ensures) in
           let b : length (take (c.min-n.result - 0) ps) ≡ length ps = length-take (c.min-n.result - 0) ps ∙ omega (arith, c.min-n.ensures) in
-          let passes : Passes m s r (take c.args.used es) c.args.year (length ps) c.in-ok-stay.stay =
-          subst (λ n. Passes m s r (take c.args.used es) c.args.year n c.in-ok-stay.stay) b
-          (subst (λ n. Passes m s r (take n es) c.args.year (length (take (c.min-n.result - 0) ps)) c.in-ok-stay.stay) a
-          (c.in-ok-stay.ensures.first (subst (λ n. Ascending m.numbers (take n es)) (sym a) up))) in
+          let passes : Passes m s r (take c.args.used es) c.args.year (length ps) c.in_ok-stay.stay =
+          subst (λ n. Passes m s r (take c.args.used es) c.args.year n c.in_ok-stay.stay) b
+          (subst (λ n. Passes m s r (take n es) c.args.year (length (take (c.min-n.result - 0) ps)) c.in_ok-stay.stay) a
+          (c.in_ok-stay.ensures.first (subst (λ n. Ascending m.numbers (take n es)) (sym a) up))) in
           let rest = no_rest c.min-n.result ps qs (omega (arith, c.min-n.ensures)) in
-          let whole : length qs ≡ length ps = c.check-file.auto.places ∙ b in (
+          let whole : length qs ≡ length ps = c.check_file.auto.places ∙ b in (
             passes.none,
-            ap (λ n. leb n (length es - c.in-ok-stay.stay)) (ap length rest ∙ whole)
-                ∙ fits_same (length ps) (length es) c.in-ok-stay.stay _ (omega (arith, passes.few, length-take c.args.used es)) passes.stays,
+            ap (λ n. leb n (length es - c.in_ok-stay.stay)) (ap length rest ∙ whole)
+                ∙ fits_same (length ps) (length es) c.in_ok-stay.stay _ (omega (arith, passes.few, length-take c.args.used es)) passes.stays,
           );
       index = λ few _.
-          subst (λ w. Index m s (row_in rows) (λ x' y' r'. r' ≡ g.Number.Ord.cmp x' y') w) (sym (no_rest c.min-n.result ps qs (omega (arith, c.min-n.ensures)))) (c.in-ok-stay.ensures.index refl);
+          subst (λ w. Index m s (row_in rows) (λ x' y' r'. r' ≡ g.Number.Ord.cmp x' y') w) (sym (no_rest c.min-n.result ps qs (omega (arith, c.min-n.ensures)))) (c.in_ok-stay.ensures.index refl);
     }

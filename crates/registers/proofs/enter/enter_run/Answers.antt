@@ -23,8 +23,8 @@ returns-then-entries-stay g c =
       left = λ within up over. (omega (arith, c.min-used.ensures, within), refl);
     }
 
-pub replace-own-requires : goal.replace-own-requires
-replace-own-requires g c =
+pub replace_own-requires : goal.replace_own-requires
+replace_own-requires g c =
     let own = c.staying-stay.result.0 in
     let st = c.staying-stay.ensures in
     let xs = c.args.entries.now in
@@ -53,8 +53,8 @@ returns g c =
           let all : c.min-used.result ≡ c.args.used = omega (arith, c.min-used.ensures, h.within) in
           let st = subst (λ u. Staying (take u xs) rows.supplier c.args.year own.start own.end stay) all c.staying-stay.ensures in
           let done = run_entered m rows.supplier (row_in rows) _ g.met.K.Kind.numbered xs c.args.used c.args.year c.args.places.now h own.start own.end stay st
-          c.replace-own.new.entries c.replace-own.result c.min-used.result all c.replace-own.ensures in
-          (omega (arith, done.0, c.replace-own.auto.entries), done.1);
+          c.replace_own.new.entries c.replace_own.result c.min-used.result all c.replace_own.ensures in
+          (omega (arith, done.0, c.replace_own.auto.entries), done.1);
       left = λ within up over.
           let all : c.min-used.result ≡ c.args.used = omega (arith, c.min-used.ensures, within) in
           let st = subst (λ u. Staying (take u xs) rows.supplier c.args.year own.start own.end stay) all c.staying-stay.ensures in

@@ -4,16 +4,16 @@ use Rattle.std.proofs.lemmas.List.{length-take}
 use Rattle.std.proofs.lemmas.List.Sums.{length-filter}
 use Rattle.registers.specs.Entries.{stays_blocked}
 use Rattle.registers.proofs.enter.keep_blocked.Goals as goal
-use Rattle.registers.proofs.enter.keep_blocked.Goals.{then-stays-blocked, else-stays-blocked}
+use Rattle.registers.proofs.enter.keep_blocked.Goals.{then-stays_blocked, else-stays_blocked}
 
 pub loop-i-preserved : goal.loop-i-preserved
 loop-i-preserved g c =
     let within : c.loop-i.i < length c.loop-i.own = omega arith in
     let is = c.index-own-i.is in
     let here = sym c.stays_blocked.ensures in
-    elim c.if-stays-blocked.branch [
-      | then-stays-blocked w ↦ rw (w.own-is, w.count-is) (subst (λ ys. FiltersInPlace (stays_blocked c.args.year) c.args.own.now ys (c.loop-i.count + 1) (c.loop-i.i + 1)) (sym w.put.ensures) (FiltersInPlace-more_set c.loop-i.invariant within (here ∙ w.if-stays-blocked.true) is))
-      | else-stays-blocked w ↦ rw (w.own-is, w.count-is) (FiltersInPlace-more_no c.loop-i.invariant within (here ∙ w.if-stays-blocked.false) is)
+    elim c.if-stays_blocked.branch [
+      | then-stays_blocked w ↦ rw (w.own-is, w.count-is) (subst (λ ys. FiltersInPlace (stays_blocked c.args.year) c.args.own.now ys (c.loop-i.count + 1) (c.loop-i.i + 1)) (sym w.put.ensures) (FiltersInPlace-more_set c.loop-i.invariant within (here ∙ w.if-stays_blocked.true) is))
+      | else-stays_blocked w ↦ rw (w.own-is, w.count-is) (FiltersInPlace-more_no c.loop-i.invariant within (here ∙ w.if-stays_blocked.false) is)
     ]
 
 pub returns : goal.returns

@@ -13,22 +13,22 @@ loop-left-preserved g c =
     let r = record_at m rows.supplier (row_in rows) in
     let h = c.loop-left.invariant in
     merging_row (λ p. row_entry m rows.supplier r c.args.year p.row) c.args.places.now c.args.own.now c.args.blocked c.loop-left.own c.put-else-blocked-gt0.new.xs c.loop-left.blocked c.loop-left.left
-    h c.loop-left-test.true c.entry-at.result c.index-places-left.result
-    (c.entry-at.ensures ∙ ap (λ p. row_entry m rows.supplier r c.args.year p.row) c.index-places-left.is) c.put-else-blocked-gt0.ensures
+    h c.loop-left-test.true c.entry_at.result c.index-places-left.result
+    (c.entry_at.ensures ∙ ap (λ p. row_entry m rows.supplier r c.args.year p.row) c.index-places-left.is) c.put-else-blocked-gt0.ensures
 
-pub loop-left-preserved-then-is-above : goal.loop-left-preserved-then-is-above
-loop-left-preserved-then-is-above g c =
+pub loop-left-preserved-then-is_above : goal.loop-left-preserved-then-is_above
+loop-left-preserved-then-is_above g c =
     let m = g.K.Kind.meaning in
     let rows = c.args.rows.now in
     let r = record_at m rows.supplier (row_in rows) in
     merging_front (λ p. row_entry m rows.supplier r c.args.year p.row) c.args.places.now c.args.own.now c.args.blocked c.loop-left.own c.put.new.xs c.loop-left.blocked c.loop-left.left
-    c.loop-left.invariant c.loop-left-test.true c.index-own-blocked-then-is-above.result c.index-own-blocked-then-is-above.result c.if-blocked-gt0.true c.index-own-blocked-then-is-above.is c.put.ensures
+    c.loop-left.invariant c.loop-left-test.true c.index-own-blocked-then-is_above.result c.index-own-blocked-then-is_above.result c.if-blocked-gt0.true c.index-own-blocked-then-is_above.is c.put.ensures
 
-pub offset-bounds-own-blocked : goal.offset-bounds-own-blocked
-offset-bounds-own-blocked g c = offset_fits _ _ _ c.well-formed.0.1 (omega (arith, c.loop-left.invariant.room))
+pub offset_bounds-own-blocked : goal.offset_bounds-own-blocked
+offset_bounds-own-blocked g c = offset_fits _ _ _ c.well-formed.0.1 (omega (arith, c.loop-left.invariant.room))
 
-pub offset-bounds-own-blocked-then-is-above : goal.offset-bounds-own-blocked-then-is-above
-offset-bounds-own-blocked-then-is-above g c = offset_fits _ _ _ c.well-formed.0.1 (omega (arith, c.loop-left.invariant.room))
+pub offset_bounds-own-blocked-then-is_above : goal.offset_bounds-own-blocked-then-is_above
+offset_bounds-own-blocked-then-is_above g c = offset_fits _ _ _ c.well-formed.0.1 (omega (arith, c.loop-left.invariant.room))
 
 pub loop-left-init : goal.loop-left-init
 loop-left-init g c =

@@ -16,28 +16,28 @@ use Rattle.registers.proofs.Replacing.{all_is, front_is, length_put, part_is}
 use Rattle.registers.proofs.Shifts.{length_of_part}
 use Rattle.registers.proofs.enter.replace_own.Goals as goal
 
-pub offset-bounds-entries-start : goal.offset-bounds-entries-start
-offset-bounds-entries-start g c = offset_fits _ _ _ c.well-formed.0.1 (omega arith)
+pub offset_bounds-entries-start : goal.offset_bounds-entries-start
+offset_bounds-entries-start g c = offset_fits _ _ _ c.well-formed.0.1 (omega arith)
 
-pub offset-bounds-entries-start-2 : goal.offset-bounds-entries-start-2
-offset-bounds-entries-start-2 g c = offset_fits _ _ _ c.well-formed.0.1 (omega arith)
+pub offset_bounds-entries-start-2 : goal.offset_bounds-entries-start-2
+offset_bounds-entries-start-2 g c = offset_fits _ _ _ c.well-formed.0.1 (omega arith)
 
-pub offset-bounds-entries-start-3 : goal.offset-bounds-entries-start-3
-offset-bounds-entries-start-3 g c = offset_fits _ _ _ c.well-formed.0.1 (omega arith)
+pub offset_bounds-entries-start-3 : goal.offset_bounds-entries-start-3
+offset_bounds-entries-start-3 g c = offset_fits _ _ _ c.well-formed.0.1 (omega arith)
 
 pub merge-requires : goal.merge-requires
 merge-requires g c =
     let x0 = c.args.entries.now in
     let start = c.args.own.start in
     let end = c.args.own.end in
-    let b = c.keep-blocked-blocked.result in
-    let own = c.keep-blocked-blocked.new.own in
+    let b = c.keep_blocked-blocked.result in
+    let own = c.keep_blocked-blocked.new.own in
     let x2 = c.shift.new.xs in
     let n = length c.args.places.now in
     let part-long = length_of_part x0 start end (omega arith) in
     let few = count_by-le-length (stays_blocked c.args.year) (part start end x0) in
-    let long : length x2 ≡ length x0 = c.shift.auto.xs ∙ length_put x0 own start (end - start) (c.keep-blocked-blocked.auto.own ∙ part-long) (omega arith) in
-    length_of_part x2 start (start + b + n) (omega (arith, long, c.requires.room, c.keep-blocked-blocked.ensures.count, few, part-long)) ∙ omega arith
+    let long : length x2 ≡ length x0 = c.shift.auto.xs ∙ length_put x0 own start (end - start) (c.keep_blocked-blocked.auto.own ∙ part-long) (omega arith) in
+    length_of_part x2 start (start + b + n) (omega (arith, long, c.requires.room, c.keep_blocked-blocked.ensures.count, few, part-long)) ∙ omega arith
 
 pub returns : goal.returns
 returns g c =
@@ -46,17 +46,17 @@ returns g c =
     let start = c.args.own.start in
     let end = c.args.own.end in
     let used = c.args.used in
-    let b = c.keep-blocked-blocked.result in
+    let b = c.keep_blocked-blocked.result in
     let n = length c.args.places.now in
-    let own = c.keep-blocked-blocked.new.own in
+    let own = c.keep_blocked-blocked.new.own in
     let kept = filter (stays_blocked c.args.year) (part start end x0) in
     let merged = c.merge.new.own in
     let sorted = c.sort.new.self in
-    let count = c.keep-blocked-blocked.ensures.count in
-    let front = c.keep-blocked-blocked.ensures.front in
+    let count = c.keep_blocked-blocked.ensures.count in
+    let front = c.keep_blocked-blocked.ensures.front in
     let part-long = length_of_part x0 start end (omega arith) in
     let few : b ≤ end - start = omega (arith, count_by-le-length (stays_blocked c.args.year) (part start end x0), count, part-long) in
-    let long-own : length own ≡ end - start = c.keep-blocked-blocked.auto.own ∙ part-long in
+    let long-own : length own ≡ end - start = c.keep_blocked-blocked.auto.own ∙ part-long in
     let room : start + b + n + (used - end) ≤ length x0 = omega (arith, c.requires.room, count, c.requires.within.0, c.requires.within.1) in
     let long : length x2 ≡ length x0 = c.shift.auto.xs ∙ length_put x0 own start (end - start) long-own (omega arith) in
     let long-part = length_of_part x2 start (start + b + n) (omega (arith, long, room)) in

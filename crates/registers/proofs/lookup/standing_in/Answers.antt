@@ -8,4 +8,4 @@ pub returns : goal.returns
 returns g c within o up =
     let es = c.args.entries.now in
     let all : c.min-used.result - 0 ≡ c.args.used = omega (arith, c.min-used.ensures) in
-    c.standing-of.ensures o (subst (λ n. IsStrictlySortedBy (by_id o).cmp (ids (take n es))) (sym all) up) ∙ ap (λ n. standing (by_id o).cmp (take n es) c.args.id) all
+    c.standing_of.ensures o (subst (λ n. IsStrictlySortedBy (by_id o).cmp (ids (take n es))) (sym all) up) ∙ ap (λ n. standing (by_id o).cmp (take n es) c.args.id) all

@@ -41,8 +41,8 @@ done c =
     year c.requires.places.table_count_is self.tables_within self.tables_ascend c.requires.places.tables files.sound.tables all.tables all.tables_fit c.enter-3.ensures.entered in
     (g, s, p)
 
-pub invariant-of-self : goal.invariant-of-self
-invariant-of-self c =
+pub invariant_of-self : goal.invariant_of-self
+invariant_of-self c =
     let self = c.args.self.now in
     let d = done c in (
       d.0.within,

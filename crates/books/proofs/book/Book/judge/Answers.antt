@@ -35,9 +35,9 @@ returns c =
     let tables = file_judged fare_table_meaning bs _ _ c.files-files.result.tables files.tables _ _ d.head.first_day.year _ _ _ c.check-4.result c.requires.tables year
     (c.check-4.ensures.first self.tables_within few_tables (sorted-from-test (compare_ids fare_table_meaning.numbers) _ self.tables_ascend)) in
     record {
-      fault = c.first-fault.ensures ∙ (λ i. first_of (line i) (stations i) (series i) (tables i));
+      fault = c.first_fault.ensures ∙ (λ i. first_of (line i) (stations i) (series i) (tables i));
       index = λ ok.
-          let taken = all_taken c.first-fault.result c.check.result c.check-2.result c.check-3.result c.check-4.result c.first-fault.ensures ok in
+          let taken = all_taken c.first_fault.result c.check.result c.check-2.result c.check-3.result c.check-4.result c.first_fault.ensures ok in
           record {
             stations = file_indexed station_meaning bs _ _ c.files-files.result.stations files.stations ranks _ (c.check-2.ensures.index few taken.0);
             series = file_indexed series_meaning bs _ _ c.files-files.result.series files.series ranks _ (c.check-3.ensures.index few_series taken.1);

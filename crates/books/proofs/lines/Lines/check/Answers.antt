@@ -11,4 +11,4 @@ returns c =
     let used = self.used in
     let all : used - 0 ≡ used = omega arith in
     let long : used ≡ length (take used self.lines) = sym (length-take used self.lines ∙ omega arith) in
-    c.judge.ensures ∙ (λ i. judged_line ((c.line-of-line.ensures ∙ ap (λ n. line_of (take n self.lines) h.supplier) all) i) (leb 16 (long i)) self.receipts h)
+    c.judge.ensures ∙ (λ i. judged_line ((c.line_of-line.ensures ∙ ap (λ n. line_of (take n self.lines) h.supplier) all) i) (leb 16 (long i)) self.receipts h)

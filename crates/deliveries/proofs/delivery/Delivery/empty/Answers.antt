@@ -6,9 +6,9 @@ use Rattle.deliveries.proofs.delivery.Delivery.empty.Goals as goal
 pub unwrap-requires : goal.unwrap-requires
 unwrap-requires c = is_day c.new.result c.new.ensures
 
-pub invariant-of-result : goal.invariant-of-result
+pub invariant_of-result : goal.invariant_of-result
 unfolding columns value
-invariant-of-result c =
+invariant_of-result c =
     let d = day_is c.new.result c.unwrap.result c.new.ensures c.unwrap.ensures in
     (ap is_some no_fault, (∣ record { stations = refl; series = refl; tables = refl; supplier = refl; first_day = day_in c.unwrap.result d; version = refl } ∣₁, tt))
 

@@ -15,7 +15,7 @@ returns-then-bytes-ne8 c =
 pub returns : goal.returns
 unfolding date
 returns c =
-    let year = c.number-in.ensures.short (lit≤ tt) in
-    let month = c.number-in-2.ensures.short (lit≤ tt) in
-    let day = c.number-in-3.ensures.short (lit≤ tt) in
+    let year = c.number_in.ensures.short (lit≤ tt) in
+    let month = c.number_in-2.ensures.short (lit≤ tt) in
+    let day = c.number_in-3.ensures.short (lit≤ tt) in
     grind (arith, nat_tests)

@@ -7,4 +7,4 @@ pub returns : goal.returns
 returns c =
     let t = c.args.older.now in
     let r = c.args.self.now in
-    comparison fare_table_meaning t r _ _ _ c.lines.ensures c.marks-marks.ensures c.first-fault.ensures (fare_table_same t r) (same_fare_table t r)
+    comparison fare_table_meaning t r _ _ _ c.lines.ensures c.marks-marks.ensures c.first_fault.ensures (fare_table_same t r) (same_fare_table t r)

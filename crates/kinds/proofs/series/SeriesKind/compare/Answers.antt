@@ -7,4 +7,4 @@ pub returns : goal.returns
 returns c =
     let t = c.args.older.now in
     let r = c.args.self.now in
-    comparison series_meaning t r _ _ _ c.lines.ensures c.marks-marks.ensures c.first-fault.ensures (series_same t r) (same_series t r)
+    comparison series_meaning t r _ _ _ c.lines.ensures c.marks-marks.ensures c.first_fault.ensures (series_same t r) (same_series t r)
