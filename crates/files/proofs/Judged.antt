@@ -1,5 +1,5 @@
 -- What the comparison of two neighbours says of the later one.
-use Rattle.std.proofs.Common.{◌≡◌, ℕ, Bool, cond, Some, None, Ok, Option, Ordering, sym, refl, ap, ◌∙◌}
+use Rattle.std.proofs.Common.{◌≡◌, ℕ, Bool, cond, Some, None, Ok, Option, Ordering, sym, refl, ap, ◌∙◌, subst}
 use Rattle.std.specs.Cmp.{IsTotalOrder}
 use Rattle.std.specs.Ordering.{is_gt}
 use Rattle.kinds.specs.Meaning.{Meaning, Order}
@@ -7,8 +7,10 @@ use Rattle.files.specs.declared.fault.RowFault.TheVariants.{Later}
 use Rattle.files.specs.Files.{judged}
 
 -- an order of a kind's meaning as the order of the type that code compares
-abbrev pub total_of : {K : Type 0} (o : Order K) {P : K → K → Ordering → Type 0} → ((x y : K) (r : Ordering) → P x y r → r ≡ o.cmp x y) → IsTotalOrder P
-total_of o says = record { cmp = o.cmp; says = says; flip = o.flip; trans = o.trans; alike = o.alike }
+pub total_of : {K : Type 0} (o : Order K) {P : K → K → Ordering} → ((x y : K) (r : Ordering) → r ≡ P x y → r ≡ o.cmp x y) → IsTotalOrder P
+total_of {K} o {P} says =
+    let same : (x y : K) → o.cmp x y ≡ P x y = λ x y. sym (says x y (P x y) refl) in
+    subst IsTotalOrder (λ i x y. same x y i) (record { antisymm = o.flip; trans = o.trans; congr = o.alike })
 
 pub judged_by : {R T N K : Type 0} (m : Meaning R T N K) (before : Option K) (key after : K) (r : R) (n : ℕ) (b : Bool) →
     before ≡ Some key → after ≡ m.order r → n ≡ m.record_number (m.number r) → b ≡ is_gt (m.file_order.cmp key after) →

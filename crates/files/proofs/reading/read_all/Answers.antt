@@ -16,7 +16,7 @@ twice-requires g c =
     let long : c.scan-read.result.0 ≤ length c.scan-read.new.places = omega (arith, c.scan-read.ensures.scanned.most) in
     let there =
     repeats_there m rows.supplier (row_in rows) c.scan-read.result.0 c.scan-read.new.places long c.scan-read.ensures.noted
-    o (λ x y. refl) c.in-Some.row (c.in-Some.ensures.first o).0 in
+    o (λ x y. g.met.K.Kind.numbered x y _ refl) c.in-Some.row (c.in-Some.ensures.first o).0 in
     omega (arith, there.0, c.scan-read.ensures.scanned.most)
 
 pub returns-in-Some : goal.returns-in-Some
@@ -27,7 +27,7 @@ returns-in-Some g c =
     let long : c.scan-read.result.0 ≤ length c.scan-read.new.places = omega (arith, c.scan-read.ensures.scanned.most) in
     let fault =
     when_repeated m rows.supplier (row_in rows) c.scan-read.result.0 c.scan-read.new.places long c.scan-read.ensures.noted
-    o (λ x y. refl) (length c.args.places.now) c.scan-read.result.1 c.scan-read.ensures.scanned c.in-Some.row (c.in-Some.ensures.first o) in
+    o (λ x y. g.met.K.Kind.numbered x y _ refl) (length c.args.places.now) c.scan-read.result.1 c.scan-read.ensures.scanned c.in-Some.row (c.in-Some.ensures.first o) in
     record { first = ap Err c.twice.ensures ∙ ap told (sym fault); index = λ e. absurd (false≢true e) }
 
 pub returns-in-None : goal.returns-in-None
@@ -38,7 +38,7 @@ returns-in-None g c =
     let long : c.scan-read.result.0 ≤ length c.scan-read.new.places = omega (arith, c.scan-read.ensures.scanned.most) in
     let none =
     when_all m rows.supplier (row_in rows) c.scan-read.result.0 c.scan-read.new.places long c.scan-read.ensures.noted
-    o (λ x y. refl) (length c.args.places.now) c.scan-read.result.1 c.scan-read.ensures.scanned c.in-None.is (c.in_default.ensures.first o) in
+    o (λ x y. g.met.K.Kind.numbered x y _ refl) (length c.args.places.now) c.scan-read.result.1 c.scan-read.ensures.scanned c.in-None.is (c.in_default.ensures.first o) in
     let ps = c.scan-read.new.places in
     let qs = c.first_repeat.new.places in
     let all : c.scan-read.result.0 ≡ length c.args.places.now = MatchOption-at_none _ _ c.in-None.is c.scan-read.ensures.scanned.next in
@@ -62,5 +62,5 @@ returns-in-Some-fault g c =
     let long : c.scan-read.result.0 ≤ length c.scan-read.new.places = omega (arith, c.scan-read.ensures.scanned.most) in
     let fault =
     when_next m rows.supplier (row_in rows) c.scan-read.result.0 c.scan-read.new.places long c.scan-read.ensures.noted
-    o (λ x y. refl) (length c.args.places.now) c.scan-read.result.1 c.scan-read.ensures.scanned _ c.in-Some-fault.is (c.in_default.ensures.first o) in
+    o (λ x y. g.met.K.Kind.numbered x y _ refl) (length c.args.places.now) c.scan-read.result.1 c.scan-read.ensures.scanned _ c.in-Some-fault.is (c.in_default.ensures.first o) in
     record { first = ap told (sym fault); index = λ e. absurd (false≢true e) }
