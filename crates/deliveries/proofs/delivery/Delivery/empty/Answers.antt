@@ -10,7 +10,10 @@ pub invariant_of-result : goal.invariant_of-result
 unfolding columns value
 invariant_of-result c =
     let d = day_is c.new.result c.unwrap.result c.new.ensures c.unwrap.ensures in
-    (ap is_some no_fault, (∣ record { stations = refl; series = refl; tables = refl; supplier = refl; first_day = day_in c.unwrap.result d; version = refl } ∣₁, tt))
+    record {
+      sound = ap is_some no_fault;
+      bears = ∣ record { stations = refl; series = refl; tables = refl; supplier = refl; first_day = day_in c.unwrap.result d; version = refl } ∣₁;
+    }
 
 pub returns : goal.returns
 returns c =

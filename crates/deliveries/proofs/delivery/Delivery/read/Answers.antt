@@ -10,7 +10,7 @@ returns-in_err-self c =
     rw (p.1, p.2) (record { first = (fault, refl); sound = decides_sound {A = Unit {0}} c.args.bytes.now (Err _) fault })
 
 pub invariant_of-self : goal.invariant_of-self
-invariant_of-self c = (ap is_some c.in_ok-self.ensures.0, (∣ c.in_ok-self.ensures.1.bears ∣₁, tt))
+invariant_of-self c = record { sound = ap is_some c.in_ok-self.ensures.0; bears = ∣ c.in_ok-self.ensures.1.bears ∣₁ }
 
 pub returns : goal.returns
 returns c =
