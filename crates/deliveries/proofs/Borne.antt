@@ -1,5 +1,5 @@
 -- What a head bears comes out of a truncation again: each of its equations is at a set.
-use Rattle.std.proofs.Common.{◌≡◌, ℕ, Bool, true, false, List, Some, None, Option, sym, refl, ap, ◌∙◌}
+use Rattle.std.proofs.Common.{◌≡◌, ℕ, Bool, true, false, List, Some, None, Option, sym, refl, ap}
 use mathlib.Core.Bool.{Bool-set}
 use mathlib.Core.HLevel.{collapsible→set}
 use mathlib.Core.Logic.{∥∥₁_elim}

@@ -1,8 +1,7 @@
 -- The station that a code finds among sorted places.
-use Rattle.std.proofs.Common.{◌≡◌, ℕ, ◌<◌, ◌≤◌, Bool, true, false, cond, ◌&&◌, eqb, List, Some, None, Less, Equal, Greater, sym, refl, ap, ◌∙◌, subst, ⊎_elim, arith}
+use Rattle.std.proofs.Common.{◌≡◌, ℕ, ◌<◌, true, false, cond, ◌&&◌, eqb, List, Some, None, Less, Equal, Greater, sym, refl, ap, ◌∙◌, subst, ⊎_elim, arith}
 use Rattle.std.specs.Cmp.{nat_cmp_total}
 use Rattle.std.specs.Option.{option_map}
-use Rattle.std.specs.List.{ContainsAt as Has}
 use Rattle.std.proofs.lemmas.Bool.{and_left, and_right, cases_eq, cases_order, eq-eqb, le-ltb, ne_eqb}
 use Rattle.fields.specs.Flags.{stays}
 use Rattle.indexes.specs.declared.Place.{Place}
@@ -11,7 +10,6 @@ use Rattle.kinds.specs.declared.station.Station.{Station}
 use Rattle.kinds.specs.Orders.{apart_numbers}
 use Rattle.kinds.specs.Station.{station_meaning}
 use Rattle.files.specs.Files.{Indexed, SoundRows, record_at}
-use Rattle.files.specs.First.{first}
 use Rattle.files.proofs.Firsts.{first_none, first_some}
 use Rattle.deliveries.specs.Across.{stands, station_of}
 use Rattle.std.specs.Ordering.{nat_cmp}

@@ -5,7 +5,7 @@ use Rattle.fields.specs.declared.fault.FieldFault.{FieldFault}
 use Rattle.fields.specs.Bytes.{columns, value}
 use Rattle.fields.specs.Calendar.{date}
 use Rattle.fields.specs.Faults.{field_of}
-use Rattle.fields.specs.Rules.{Sound, checked}
+use Rattle.fields.specs.Rules.{checked}
 use Rattle.fields.proofs.FirstFault.{checked_sound, kept_between, kept_tests}
 use Rattle.deliveries.specs.declared.fault.HeadFault.{HeadFault}
 use Rattle.deliveries.specs.declared.fault.HeadFault.TheVariants.{Short, BrokenField, WrongSize}

@@ -1,5 +1,5 @@
 -- The rows of a delivery's files by its bytes, and the first fault of all of them.
-use Rattle.std.proofs.Common.{◌≡◌, ℕ, ◌≤◌, min, true, List, drop, is_ok, Some, None, Ok, Err, Option, Result, sym, refl, ap, ◌∙◌, subst, arith}
+use Rattle.std.proofs.Common.{◌≡◌, ℕ, ◌≤◌, min, true, List, drop, is_ok, None, Ok, Err, Option, Result, refl, ap, ◌∙◌, arith}
 use Rattle.std.specs.Result.{result_err}
 use Rattle.kinds.specs.FareTable.{fare_table_meaning}
 use Rattle.kinds.specs.Meaning.{Meaning}

@@ -1,13 +1,12 @@
 -- The first fault of a delivery by those of its parts.
-use Rattle.std.proofs.Common.{◌≡◌, ℕ, true, false, List, is_some, is_ok, Some, None, Ok, Err, Decides, Option, Result, sym, refl, ap, ◌∙◌, subst, MatchResult}
-use Rattle.std.specs.Result.{result_err}
+use Rattle.std.proofs.Common.{◌≡◌, ℕ, false, List, is_some, is_ok, Some, None, Ok, Err, Decides, Option, Result, sym, refl, ap, ◌∙◌, MatchResult}
 use Rattle.std.proofs.lemmas.Bool.{false≢true}
 use Rattle.kinds.specs.FareTable.{fare_table_meaning}
 use Rattle.kinds.specs.Series.{series_meaning}
 use Rattle.kinds.specs.Station.{station_meaning}
 use Rattle.files.specs.declared.fault.RowFault.{RowFault}
-use Rattle.files.specs.Files.{file_fault, told}
-use Rattle.files.specs.First.{first, or_else}
+use Rattle.files.specs.Files.{file_fault}
+use Rattle.files.specs.First.{or_else}
 use Rattle.files.proofs.Firsts.{first_none, none_first, some_none}
 use Rattle.files.proofs.Soundness.{none_when_sound, sound_when_none}
 use Rattle.deliveries.specs.declared.fault.AcrossFault.{AcrossFault}

@@ -1,5 +1,5 @@
 -- The series of a delivery beside its stations.
-use Rattle.std.specs.Prelude.{◌≡◌, ℕ, ◌<◌, true, cond, ◌&&◌, List, Some, None, Option, ◌==◌}
+use Rattle.std.specs.Prelude.{◌≡◌, ℕ, ◌<◌, true, cond, ◌&&◌, Some, None, Option, ◌==◌}
 use Rattle.std.specs.Option.{option_map}
 use Rattle.fields.specs.Flags.{stays}
 use Rattle.kinds.specs.declared.series.End.{End}

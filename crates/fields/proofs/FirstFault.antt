@@ -4,7 +4,6 @@ use Rattle.std.proofs.lemmas.List.{at_drop_more}
 use Rattle.std.proofs.lemmas.Bool.{false≢true}
 use Rattle.std.proofs.lemmas.Bool.Decides.{nat_tests}
 use Rattle.fields.specs.declared.fault.FieldFault.{FieldFault}
-use Rattle.fields.specs.declared.fault.FieldFault.TheVariants.{NotOfType, NotAllowed, NotEqual}
 use Rattle.fields.specs.declared.rule.Context.{Context}
 use Rattle.fields.specs.declared.rule.Field.{Field}
 use Rattle.fields.specs.declared.rule.Content.TheVariants.{Between}

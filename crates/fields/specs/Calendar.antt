@@ -1,5 +1,5 @@
 -- The days of the Gregorian calendar in the years 2000 to 9999.
-use Rattle.std.specs.Prelude.{ℕ, ◌+◌, ◌*◌, ◌%◌, Bool, cond, not, ◌&&◌, ◌||◌, List, length, Some, None, Option, ◌==◌, nat_le}
+use Rattle.std.specs.Prelude.{ℕ, ◌%◌, Bool, cond, not, ◌&&◌, ◌||◌, List, length, Some, None, Option, ◌==◌, nat_le}
 use Rattle.fields.specs.declared.class.Class.TheVariants.{Digit}
 use Rattle.fields.specs.Bytes.{columns, every, value}
 

@@ -6,11 +6,12 @@ use Rattle.kinds.specs.Meaning.{Meaning, Order}
 use Rattle.files.specs.declared.fault.RowFault.TheVariants.{Later}
 use Rattle.files.specs.Files.{judged}
 
--- an order of a kind's meaning as the order of the type that code compares
+-- an order of a kind's meaning is the order by which code compares
+pub one_order : {K : Type 0} (o : Order K) {P : K → K → Ordering} → ((x y : K) (r : Ordering) → r ≡ P x y → r ≡ o.cmp x y) → o.cmp ≡ P
+one_order o {P} says i x y = sym (says x y (P x y) refl) i
+
 pub total_of : {K : Type 0} (o : Order K) {P : K → K → Ordering} → ((x y : K) (r : Ordering) → r ≡ P x y → r ≡ o.cmp x y) → IsTotalOrder P
-total_of {K} o {P} says =
-    let same : (x y : K) → o.cmp x y ≡ P x y = λ x y. sym (says x y (P x y) refl) in
-    subst IsTotalOrder (λ i x y. same x y i) (record { antisymm = o.flip; trans = o.trans; congr = o.alike })
+total_of o says = subst IsTotalOrder (one_order o says) (record { antisymm = o.flip; trans = o.trans; congr = o.alike })
 
 pub judged_by : {R T N K : Type 0} (m : Meaning R T N K) (before : Option K) (key after : K) (r : R) (n : ℕ) (b : Bool) →
     before ≡ Some key → after ≡ m.order r → n ≡ m.record_number (m.number r) → b ≡ is_gt (m.file_order.cmp key after) →

@@ -10,7 +10,7 @@ use Rattle.std.proofs.lemmas.List.Sorted.{IsPermutation-sym}
 use Rattle.std.proofs.ByRecursion.{has_shuffled}
 use Rattle.std.proofs.lemmas.Bool.{cases_Bool, cases_order, false≢true, or_left, or_right}
 use Rattle.indexes.specs.declared.Place.{Place}
-use Rattle.indexes.specs.Places.{Follows, Least, Repeats}
+use Rattle.indexes.specs.Places.{Least, Repeats}
 use Rattle.kinds.specs.Meaning.{Meaning}
 use Rattle.files.specs.declared.fault.RowFault.{RowFault}
 use Rattle.files.specs.declared.fault.RowFault.TheVariants.{Twice}
@@ -18,7 +18,6 @@ use Rattle.files.specs.Files.{Indexed, Noted, file_fault, light_fault, number_at
 use Rattle.files.specs.Steps.{Scanned}
 use Rattle.files.specs.First.{or_else}
 use Rattle.files.proofs.Firsts.{first_none, first_some}
-use Rattle.files.proofs.Judged.{total_of}
 
 module _ {R T N K : Type 0} (m : Meaning R T N K) (s : ℕ) (row : ℕ → List ℕ) where
   below_some : (k n j : ℕ) → j < n → same_number m s row j k ≡ true → stands_below m s row k n ≡ true

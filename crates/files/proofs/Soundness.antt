@@ -1,5 +1,5 @@
 -- A file has no fault exactly where its rows keep the rules, all of them and not only neighbours.
-use Rattle.std.proofs.Common.{◌≡◌, ℕ, zero, suc, ◌<◌, ◌≤◌, Bool, true, false, cond, ◌||◌, List, is_ok, Some, None, Ok, Err, Decides, Option, Result, Ordering, Less, Equal, Greater, sym, refl, ap, ◌∙◌, subst, ⊎_elim, arith}
+use Rattle.std.proofs.Common.{◌≡◌, ℕ, zero, suc, ◌<◌, Bool, true, false, cond, List, is_ok, Some, None, Ok, Err, Decides, Option, Result, Ordering, Less, Equal, Greater, sym, refl, ap, ◌∙◌, subst, ⊎_elim, arith}
 use Rattle.std.specs.Ordering.{is_eq, is_gt, ordering_reverse}
 use Rattle.std.proofs.lemmas.Bool.{cases_order, false≢true, or_from, or_parts, true≢false}
 use Rattle.fields.specs.declared.fault.FieldFault.{FieldFault}

@@ -1,10 +1,8 @@
 -- The parts that a row's fault tells: 4, 5 and 6 their field, 7 and 8 the record's number.
 use Rattle.std.specs.Prelude.{ℕ}
-use Rattle.fields.specs.declared.fault.FieldFault.TheVariants.{NotOfType, NotAllowed, NotEqual}
 use Rattle.fields.specs.declared.parts.Layer.TheVariants as layer
 use Rattle.fields.specs.declared.parts.Parts.{Parts}
 use Rattle.fields.specs.Faults.{field_parts}
-use Rattle.files.specs.declared.fault.FileFault.{FileFault}
 use Rattle.files.specs.declared.fault.RowFault.{RowFault}
 use Rattle.files.specs.declared.fault.RowFault.TheVariants.{Field, Later, Twice}
 

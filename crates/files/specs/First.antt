@@ -1,5 +1,5 @@
 -- The first of several things, one after another, that has a fault.
-use Rattle.std.specs.Prelude.{ℕ, zero, suc, List, Some, None, Option}
+use Rattle.std.specs.Prelude.{ℕ, zero, suc, Some, None, Option}
 
 -- a, or b where there is no a
 abbrev pub or_else : {A : Type 0} → Option A → Option A → Option A

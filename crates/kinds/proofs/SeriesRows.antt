@@ -1,6 +1,5 @@
 -- The marks of a series say whether its told fields are equal.
 use Rattle.std.proofs.Common.{◌≡◌, ap}
-use Rattle.kinds.specs.declared.series.End.{End}
 use Rattle.kinds.specs.declared.series.Series.{Series}
 use Rattle.kinds.specs.declared.series.SeriesTold.{SeriesTold}
 use Rattle.kinds.specs.Cover.{Unchanged}

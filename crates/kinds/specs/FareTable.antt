@@ -1,6 +1,5 @@
 -- Fare table descriptions: their columns, their cover, and what they mean.
-use Rattle.std.specs.Prelude.{◌≡◌, ℕ, Bool, true, false, cond, List, [], ◌∷◌, ◌==◌, refl}
-use Rattle.std.proofs.Common.{sym, ◌∙◌}
+use Rattle.std.specs.Prelude.{◌≡◌, ℕ, Bool, false, cond, List, [], ◌∷◌, ◌==◌, refl}
 use Rattle.std.specs.Cmp.{nat_cmp_total}
 use Rattle.fields.specs.declared.rule.Content.TheVariants.{Any, Between, ZeroOrFrom, Amendment, Capitals, Supplier, FileName}
 use Rattle.fields.specs.declared.rule.Context.{Context}

@@ -2,7 +2,8 @@
 use Rattle.std.proofs.Common.{◌≡◌, ℕ, ◌+◌, ◌-◌, ◌<◌, ◌≤◌, List, ◌++◌, map, length, take, drop, Some, None, filter, Option, Ordering, sym, refl, ap, ◌∙◌, subst, arith}
 use mathlib.Core.List.{map-map}
 use Rattle.std.specs.List.{range_with_len}
-use Rattle.std.specs.List.Sorted.{IsPermutation}
+use Rattle.std.specs.List.Sorted.{IsPermutation, IsSortedWithin}
+use Rattle.std.specs.Ordering.{is_lt}
 use Rattle.std.specs.Option.{option_map}
 use Rattle.std.proofs.lemmas.List.{length-append, length-map, length-take, take-take}
 use Rattle.std.proofs.lemmas.Slice.{between_is}
@@ -13,12 +14,13 @@ use Rattle.kinds.specs.Meaning.{Meaning}
 use Rattle.files.specs.Files.{record_at}
 use Rattle.files.specs.First.{first, or_else}
 use Rattle.files.proofs.Firsts.{none_first, some_none}
-use Rattle.files.proofs.Judged.{total_of}
+use Rattle.files.proofs.Judged.{one_order, total_of}
 use Rattle.registers.specs.declared.entry.Entry.{Entry}
 use Rattle.registers.specs.declared.fault.EntryFault.{EntryFault}
 use Rattle.registers.specs.declared.fault.RegisterFault.{RegisterFault}
 use Rattle.registers.specs.Admission.{Entered, at_row, entries_after, missing_refusal, register_fault, row_entry, row_refusal, rows_refusal}
 use Rattle.registers.specs.Entries.{Ascending, stays_blocked}
+use Rattle.registers.specs.Ids.{id_cmp}
 use Rattle.registers.specs.Indexes.{Enterable, row_place}
 use Rattle.registers.specs.Own.{OwnPart, Replaced, Staying, part}
 use Rattle.registers.proofs.Entered.{entered}
@@ -44,8 +46,8 @@ stay_is m s r es year n start end stay up st =
     let own = st.own (by_supplier m.numbers es up) in
     omega (arith, count_after m s r es year n start end st.first st.last own, length_part es s start end st.first st.last own, st.count)
 
-module _ {R T N K : Type 0} (m : Meaning R T N K) (s : ℕ) (row : ℕ → List ℕ) (P : N → N → Ordering → Type 0)
-    (says : (x y : N) (o : Ordering) → P x y o → o ≡ m.numbers.cmp x y)
+module _ {R T N K : Type 0} (m : Meaning R T N K) (s : ℕ) (row : ℕ → List ℕ) (P : N → N → Ordering)
+    (says : (x y : N) (o : Ordering) → o ≡ P x y → o ≡ m.numbers.cmp x y)
     (xs : List (Entry N T)) (used year : ℕ) (ps : List (Place N)) (h : Enterable m s row P xs used year ps)
     (start end stay : ℕ) (st : Staying (take used xs) s year start end stay) where
   r : ℕ → R
@@ -87,7 +89,7 @@ module _ {R T N K : Type 0} (m : Meaning R T N K) (s : ℕ) (row : ℕ → List 
       IsPermutation-trans (blocked ++ rows) (blocked ++ map g ps) rep.own (shuffled_after blocked rows (map g ps) turned)
       (subst (λ w. IsPermutation (filter (stays_blocked year) w ++ map g ps) rep.own) (sym mine) rep.shuffled) in
       let done = entered m s (record_at m s row) year (take used xs) (length ps) start end st.first st.last own h.ascending h.single
-      (no_row_refused m s (record_at m s row) (take used xs) year (length ps) h.none) rep.own same (rep.ascends (total_of m.numbers says)) in
+      (no_row_refused m s (record_at m s row) (take used xs) year (length ps) h.none) rep.own same (subst (λ c. IsSortedWithin (λ x y. is_lt (id_cmp c x.id y.id)) rep.own 0 (length rep.own)) (sym (one_order m.numbers says)) (rep.ascends (total_of m.numbers says))) in
       let all : take u ys ≡ take start (take used xs) ++ (rep.own ++ drop end (take used xs)) =
       rep.all ∙ (λ i. sym lower i ++ (rep.own ++ between_is xs end used i)) in
       let a = count_after m s (record_at m s row) (take used xs) year (length ps) start end st.first st.last own in

@@ -1,25 +1,34 @@
 -- A supplier's own entries ascend by number, so the first live one without a row is the lowest.
 use Rattle.std.proofs.Common.{◌≡◌, ℕ, ◌<◌, ◌≤◌, Bool, true, false, cond, not, ◌&&◌, eqb, ltb, List, length, get_or, Some, None, Ordering, Less, Equal, Greater, sym, refl, ap, ◌∙◌, subst, arith}
 use Rattle.std.specs.Cmp.{IsTotalOrder}
+use Rattle.std.specs.List.Sorted.{IsStrictlySortedBy}
 use Rattle.std.specs.Option.{option_map}
 use Rattle.std.specs.Ordering.{is_lt, ordering_reverse, ordering_then, nat_cmp}
 use Rattle.std.specs.List.{AllByRecursion as All}
 use Rattle.std.proofs.ByRecursion.{All-from_get_or, All-get_or}
 use Rattle.std.proofs.lemmas.Bool.{and_from, and_right, eq-eqb, le-ltb}
 use Rattle.kinds.specs.Meaning.{Meaning, Order}
-use Rattle.files.proofs.Judged.{total_of}
+use Rattle.files.proofs.Judged.{one_order, total_of}
 use Rattle.registers.specs.declared.entry.Entry.{Entry}
 use Rattle.registers.specs.declared.entry.Id.{Id}
 use Rattle.registers.specs.declared.fault.RegisterFault.TheVariants.{Missing}
 use Rattle.registers.specs.Admission.{has_row, is_missing, lowest, missing_refusal}
-use Rattle.registers.specs.Entries.{Ascending, is_live}
-use Rattle.registers.specs.Ids.{by_id, compare_ids, ranks_ids}
+use Rattle.registers.specs.Entries.{Ascending, ids, is_live, standing}
+use Rattle.registers.specs.Ids.{by_id, compare_ids, id_cmp}
 use Rattle.registers.proofs.Lookups.{below}
 use Rattle.registers.proofs.Lowest.{lowest_at, lowest_none}
 
 -- the order of ids by the order of a kind's numbers
-abbrev pub id_order : {N : Type 0} (o : Order N) → IsTotalOrder (ranks_ids (λ x y r. r ≡ o.cmp x y))
+abbrev pub id_order : {N : Type 0} (o : Order N) → IsTotalOrder (compare_ids o)
 id_order o = by_id (total_of o (λ x y r e. e))
+
+-- the entries and what stands under an id, by the order by which code compares
+module _ {N T : Type 0} (o : Order N) {P : N → N → Ordering} (says : (x y : N) (r : Ordering) → r ≡ P x y → r ≡ o.cmp x y) (es : List (Entry N T)) where
+  pub ascends_by : Ascending o es → IsStrictlySortedBy (id_cmp P) (ids es)
+  ascends_by = subst (λ c. IsStrictlySortedBy (id_cmp c) (ids es)) (one_order o says)
+
+  pub standing_by : (i : Id N) → standing (id_cmp P) es i ≡ standing (compare_ids o) es i
+  standing_by i = ap (λ c. standing (id_cmp c) es i) (sym (one_order o says))
 
 pub rank_same : (a b : ℕ) → a ≡ b → nat_cmp a b ≡ Equal
 rank_same a b e = λ i. cond (le-ltb a b (omega arith) i) Less (cond (eq-eqb a b e i) Equal Greater)

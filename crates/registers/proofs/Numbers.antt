@@ -53,7 +53,7 @@ module _ {R T N K : Type 0} (m : Meaning R T N K) (s : ℕ) (r : ℕ → R) wher
       go true q ih e = let h = ih q in (h.0, omega (arith, h.1), h.2)
       go false q ih e = (n, omega arith, e)
 
-module _ {R T N K : Type 0} (m : Meaning R T N K) (s : ℕ) (row : ℕ → List ℕ) {P : N → N → Ordering → Type 0} (ps : List (Place N)) (index : Index m s row P ps) where
+module _ {R T N K : Type 0} (m : Meaning R T N K) (s : ℕ) (row : ℕ → List ℕ) {P : N → N → Ordering} (ps : List (Place N)) (index : Index m s row P ps) where
   pub place_there : (k : ℕ) → k < length ps → Has ps (row_place m s row k)
   place_there k l = has_shuffled (map (row_place m s row) (range_with_len 0 (length ps))) ps _ index.shuffled (counted_has (row_place m s row) (length ps) k l)
 

@@ -26,7 +26,7 @@ use Rattle.registers.proofs.Lowest.{lowest_past, lowest_until}
 use Rattle.registers.proofs.Split.{after_others, before_others, in_parts, length_part, others_are, own_kept}
 
 -- the places of the rows, sorted
-pub indexed : {R T N K : Type 0} (m : Meaning R T N K) (s : ℕ) (row : ℕ → List ℕ) (P : N → N → Ordering → Type 0) (n : ℕ) (ps qs : List (Place N)) →
+pub indexed : {R T N K : Type 0} (m : Meaning R T N K) (s : ℕ) (row : ℕ → List ℕ) (P : N → N → Ordering) (n : ℕ) (ps qs : List (Place N)) →
     length ps ≡ n → Noted m s row n ps → IsPermutation ps qs → ((o : IsTotalOrder P) → SortedPlaces o qs) → Index m s row P qs
 indexed m s row P n ps qs long noted same sorted =
     let all : ps ≡ map (row_place m s row) (range_with_len 0 n) = fill_by_all (row_place m s row) ps n (row_place m s row 0) long (λ k l. noted k (row_place m s row 0) l) in

@@ -3,7 +3,6 @@ use Rattle.std.specs.Prelude.{◌≡◌, ℕ, ◌+◌, Bool, true, false, cond, 
 use Rattle.std.specs.declared.cmp.Ordering.{Ordering}
 use Rattle.std.specs.Ordering.{is_eq}
 use Rattle.std.specs.List.Sorted.{IsStrictlySortedBy}
-use Rattle.std.specs.Map.Invariant.{is-strictly-sorted-by}
 use Rattle.kinds.specs.Meaning.{Order}
 use Rattle.registers.specs.declared.entry.Entry.{Entry}
 use Rattle.registers.specs.declared.entry.Id.{Id}
@@ -41,7 +40,3 @@ is_blocked year (Retired y) = nat_lt year (free_from y)
 
 abbrev pub stays_blocked : {N T : Type 0} → ℕ → Entry N T → Bool
 stays_blocked year e = is_blocked year e.standing
-
--- whether entries ascend, as a test
-abbrev pub ascends : {N T : Type 0} → Order N → List (Entry N T) → Bool
-ascends o es = is-strictly-sorted-by (compare_ids o) (ids es)

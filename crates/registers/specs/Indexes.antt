@@ -16,12 +16,12 @@ abbrev pub row_place : {R T N K : Type 0} → Meaning R T N K → ℕ → (ℕ �
 row_place m s row k = record { number = m.number (record_at m s row k); row = k }
 
 -- as many places as rows, each that of a row's number, in the order of the numbers
-pub record Index {R T N K : Type 0} (m : Meaning R T N K) (s : ℕ) (row : ℕ → List ℕ) (P : N → N → Ordering → Type 0) (ps : List (Place N)) : Type 0 where
+pub record Index {R T N K : Type 0} (m : Meaning R T N K) (s : ℕ) (row : ℕ → List ℕ) (P : N → N → Ordering) (ps : List (Place N)) : Type 0 where
   pub shuffled : IsPermutation (map (row_place m s row) (range_with_len 0 (length ps))) ps
   pub sorted : (o : IsTotalOrder P) → SortedPlaces o ps
 
 -- a file of which nothing is refused, with room for its entries, and the index of its rows
-pub record Enterable {R T N K : Type 0} (m : Meaning R T N K) (s : ℕ) (row : ℕ → List ℕ) (P : N → N → Ordering → Type 0) (run : List (Entry N T)) (used year : ℕ) (ps : List (Place N)) : Type 0 where
+pub record Enterable {R T N K : Type 0} (m : Meaning R T N K) (s : ℕ) (row : ℕ → List ℕ) (P : N → N → Ordering) (run : List (Entry N T)) (used year : ℕ) (ps : List (Place N)) : Type 0 where
   pub within : used ≤ length run
   pub ascending : Ascending m.numbers (take used run)
   pub index : Index m s row P ps

@@ -7,7 +7,7 @@ use Rattle.std.specs.Cmp.{IsTotalOrder}
 use Rattle.std.specs.Ordering.{is_lt}
 use Rattle.registers.specs.declared.entry.Entry.{Entry}
 use Rattle.registers.specs.Entries.{stays_blocked}
-use Rattle.registers.specs.Ids.{by_id}
+use Rattle.registers.specs.Ids.{id_cmp}
 
 abbrev pub BySupplier : {N T : Type 0} → List (Entry N T) → Type 0
 BySupplier es = IsNonDecreasingBy (λ e. e.id.supplier) es
@@ -31,9 +31,9 @@ pub record Staying {N T : Type 0} (es : List (Entry N T)) (supplier year start e
   pub few : stay ≤ length es
 
 -- in the first used entries those from start up to end gave way to fresh ones, which ascend now; r entries are used then
-pub record Replaced {N T : Type 0} (P : N → N → Ordering → Type 0) (xs ys : List (Entry N T)) (start end used : ℕ) (fresh : List (Entry N T)) (r : ℕ) : Type 0 where
+pub record Replaced {N T : Type 0} (P : N → N → Ordering) (xs ys : List (Entry N T)) (start end used : ℕ) (fresh : List (Entry N T)) (r : ℕ) : Type 0 where
   pub own : List (Entry N T)
   pub shuffled : IsPermutation fresh own
-  pub ascends : (o : IsTotalOrder P) → IsSortedWithin (λ x y. is_lt ((by_id o).cmp x.id y.id)) own 0 (length own)
+  pub ascends : (o : IsTotalOrder P) → IsSortedWithin (λ x y. is_lt (id_cmp P x.id y.id)) own 0 (length own)
   pub all : take r ys ≡ take start xs ++ (own ++ part end used xs)
   pub count : r ≡ start + length fresh + (used - end)

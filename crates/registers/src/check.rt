@@ -102,7 +102,7 @@ fn check_rows<K: Kind>(
 
 // Whether an entry is live and its number not among the places.
 fn lacks_row<K: Kind>(entry: &Entry<K::Number, K::Told>, places: &[Place<K::Number>]) -> bool
-    ensures { (s : ℕ) (row : ℕ → List ℕ) → Index K.Kind.meaning s row (λ x' y' r'. r' ≡ K.Number.Ord.cmp x' y') places.now → result ≡ (is_live entry.now.standing && not (has_row K.Kind.meaning s (record_at K.Kind.meaning s row) (length places.now) entry.now.id.number)) }
+    ensures { (s : ℕ) (row : ℕ → List ℕ) → Index K.Kind.meaning s row K.Number.Ord.cmp places.now → result ≡ (is_live entry.now.standing && not (has_row K.Kind.meaning s (record_at K.Kind.meaning s row) (length places.now) entry.now.id.number)) }
 {
     match entry.standing {
         Standing::Live(_) => row_of(places, entry.id.number).is_none(),
@@ -115,7 +115,7 @@ fn check_missing<K: Kind>(
     own: &[Entry<K::Number, K::Told>],
     places: &[Place<K::Number>],
 ) -> Result<(), RegisterFault>
-    ensures { (s : ℕ) (row : ℕ → List ℕ) → Index K.Kind.meaning s row (λ x' y' r'. r' ≡ K.Number.Ord.cmp x' y') places.now → Ascending K.Kind.meaning.numbers own.now → All (λ e. e.id.supplier ≡ s) own.now → result_err result ≡ missing_refusal K.Kind.meaning s (record_at K.Kind.meaning s row) own.now (length places.now) }
+    ensures { (s : ℕ) (row : ℕ → List ℕ) → Index K.Kind.meaning s row K.Number.Ord.cmp places.now → Ascending K.Kind.meaning.numbers own.now → All (λ e. e.id.supplier ≡ s) own.now → result_err result ≡ missing_refusal K.Kind.meaning s (record_at K.Kind.meaning s row) own.now (length places.now) }
 {
     for entry in own {
         if lacks_row::<K>(entry, places) {
@@ -138,7 +138,7 @@ fn check_file<K: Kind>(
     requires few { length places.old ≤ 4096 }
     ensures first { Ascending K.Kind.meaning.numbers (take used entries.now) → MatchResult result (Passes K.Kind.meaning rows.now.supplier (record_at K.Kind.meaning rows.now.supplier (row_in rows.now)) (take used entries.now) year (length places.old)) (λ e. register_fault K.Kind.meaning rows.now.supplier (record_at K.Kind.meaning rows.now.supplier (row_in rows.now)) (take used entries.now) year (length places.old) ≡ Some e) }
     ensures few { IfOk result (λ stay. stay ≤ used) }
-    ensures index { is_ok result ≡ true → Index K.Kind.meaning rows.now.supplier (row_in rows.now) (λ x' y' r'. r' ≡ K.Number.Ord.cmp x' y') places.new }
+    ensures index { is_ok result ≡ true → Index K.Kind.meaning rows.now.supplier (row_in rows.now) K.Number.Ord.cmp places.new }
 {
     check_rows::<K>(&entries[0..used], rows, year, places)?;
     let _ = first_repeat(places);
@@ -156,7 +156,7 @@ pub(crate) fn check_run<K: Kind>(
     places: &mut [Place<K::Number>],
 ) -> Result<bool, RegisterFault>
     ensures first { used ≤ length entries.now → length places.old ≤ 4096 → Ascending K.Kind.meaning.numbers (take used entries.now) → Judged K.Kind.meaning rows.now.supplier (record_at K.Kind.meaning rows.now.supplier (row_in rows.now)) (take used entries.now) year (length places.old) (length entries.now) result }
-    ensures index { length places.old ≤ 4096 → is_ok result ≡ true → Index K.Kind.meaning rows.now.supplier (row_in rows.now) (λ x' y' r'. r' ≡ K.Number.Ord.cmp x' y') places.new }
+    ensures index { length places.old ≤ 4096 → is_ok result ≡ true → Index K.Kind.meaning rows.now.supplier (row_in rows.now) K.Number.Ord.cmp places.new }
 {
     let used = used.min(entries.len());
     let n = MOST_ROWS.min(places.len());

@@ -122,14 +122,14 @@ fn replace_own<K: Kind>(
 ) -> usize
     requires within { (own.start ≤ own.end) × (own.end ≤ used) × (used ≤ length entries.old) }
     requires room { used - (own.end - own.start) + count_by (stays_blocked year) (part own.start own.end entries.old) + length places.now ≤ length entries.old }
-    ensures { Replaced (λ x' y' r'. r' ≡ K.Number.Ord.cmp x' y') entries.old entries.new own.start own.end used (filter (stays_blocked year) (part own.start own.end entries.old) ++ map (λ p. row_entry K.Kind.meaning rows.now.supplier (record_at K.Kind.meaning rows.now.supplier (row_in rows.now)) year p.row) places.now) result }
+    ensures { Replaced K.Number.Ord.cmp entries.old entries.new own.start own.end used (filter (stays_blocked year) (part own.start own.end entries.old) ++ map (λ p. row_entry K.Kind.meaning rows.now.supplier (record_at K.Kind.meaning rows.now.supplier (row_in rows.now)) year p.row) places.now) result }
 {
     let Own { start, end } = own;
     let blocked = keep_blocked(&mut entries[start..end], year);
     let until = start + blocked + places.len();
     shift(entries, end, used, until);
     merge::<K>(&mut entries[start..until], blocked, rows, year, places);
-    entries[start..until].sort();
+    entries[start..until].sort_unstable();
     until + (used - end)
 }
 
@@ -142,7 +142,7 @@ pub(crate) fn enter_run<K: Kind>(
     year: u16,
     places: &[Place<K::Number>],
 ) -> usize
-    ensures entered { Enterable K.Kind.meaning rows.now.supplier (row_in rows.now) (λ x' y' r'. r' ≡ K.Number.Ord.cmp x' y') entries.old used year places.now → (result ≤ length entries.new) × Entered K.Kind.meaning rows.now.supplier (record_at K.Kind.meaning rows.now.supplier (row_in rows.now)) (take used entries.old) year (length places.now) (take result entries.new) }
+    ensures entered { Enterable K.Kind.meaning rows.now.supplier (row_in rows.now) K.Number.Ord.cmp entries.old used year places.now → (result ≤ length entries.new) × Entered K.Kind.meaning rows.now.supplier (record_at K.Kind.meaning rows.now.supplier (row_in rows.now)) (take used entries.old) year (length places.now) (take result entries.new) }
     ensures left { used ≤ length entries.old → Ascending K.Kind.meaning.numbers (take used entries.old) → length entries.old < length (entries_after K.Kind.meaning rows.now.supplier (record_at K.Kind.meaning rows.now.supplier (row_in rows.now)) (take used entries.old) year (length places.now)) → (result ≡ used) × (entries.new ≡ entries.old) }
 {
     let used = used.min(entries.len());

@@ -1,11 +1,10 @@
 // An entry of a book: what stands under a number of a supplier.
-ghost use Rattle.registers.specs.Ids.{ranks_ids};
-ghost use Rattle.std.specs.Prelude.{◌≡◌, ◌+◌, IsSomeAnd, nat_lt};
-ghost use Rattle.std.specs.declared.cmp.Ordering.{Ordering};
-ghost use Rattle.std.specs.Ordering.{is_eq};
-ghost use Rattle.std.specs.Cmp.Rules.{comparing};
+ghost use Rattle.registers.specs.Ids.{by_id, id_cmp};
 ghost use Rattle.std.proofs.Common.{rules};
-ghost use Rattle.std.specs.Cmp as Keys;
+ghost use Rattle.std.specs.Cmp.Rules.{comparing};
+ghost use Rattle.std.specs.Cmp.{eq_by_cmp_equiv, on_total, partial_equiv_from_equiv};
+ghost use Rattle.std.specs.Ordering.{as_partial_cmp, eq_by_cmp, on};
+ghost use Rattle.std.specs.Prelude.{◌≡◌, ◌+◌, nat_lt};
 
 use std::cmp::{Ord, Ordering};
 
@@ -39,9 +38,9 @@ pub struct Entry<N, T> {
 }
 
 impl<N: Ord, T> PartialEq for Entry<N, T> {
-    ghost equals = { λ x y r. (o : Ordering) × ranks_ids N.Ord.orders x.id y.id o × (r ≡ is_eq o) };
+    ghost eq = { eq_by_cmp (on (λ e. e.id) (id_cmp N.Ord.cmp)) };
 
-    ghost laws = { Keys.partial_equiv_from_equiv (Prim.search (comparing, rules)) };
+    ghost laws = { partial_equiv_from_equiv (eq_by_cmp_equiv (on_total (λ e. e.id) (by_id N.Ord.total))) };
 
     fn eq(&self, other: &Entry<N, T>) -> bool {
         self.cmp(other).is_eq()
@@ -53,7 +52,7 @@ impl<N: Ord, T> Eq for Entry<N, T> {
 }
 
 impl<N: Ord, T> PartialOrd for Entry<N, T> {
-    ghost compares = { λ x y r. IsSomeAnd r (ranks_ids N.Ord.orders x.id y.id) };
+    ghost partial_cmp = { as_partial_cmp (on (λ e. e.id) (id_cmp N.Ord.cmp)) };
 
     ghost laws = { Prim.search (comparing, rules) };
 
@@ -63,7 +62,7 @@ impl<N: Ord, T> PartialOrd for Entry<N, T> {
 }
 
 impl<N: Ord, T> Ord for Entry<N, T> {
-    ghost cmp = { λ x y. ranks_ids (λ x' y' r'. r' ≡ N.Ord.cmp x' y') x.id y.id };
+    ghost cmp = { on (λ e. e.id) (id_cmp N.Ord.cmp) };
 
     ghost total = { Prim.search (comparing, rules) };
 

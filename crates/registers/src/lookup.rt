@@ -1,6 +1,6 @@
 // What stands under an id.
 ghost use Rattle.registers.specs.Entries.{ids, standing};
-ghost use Rattle.registers.specs.Ids.{by_id};
+ghost use Rattle.registers.specs.Ids.{id_cmp};
 ghost use Rattle.std.specs.Cmp.{IsTotalOrder};
 ghost use Rattle.std.specs.List.Sorted.{IsStrictlySortedBy};
 ghost use Rattle.std.specs.Prelude.{◌≡◌, ◌≤◌, length, take};
@@ -12,7 +12,7 @@ pub(crate) fn standing_of<N: Ord + Copy, T: Copy>(
     entries: &[Entry<N, T>],
     id: Id<N>,
 ) -> Option<Standing<T>>
-    ensures { (o : IsTotalOrder N.Ord.cmp) → IsStrictlySortedBy (by_id o).cmp (ids entries.now) → result ≡ standing (by_id o).cmp entries.now id }
+    ensures { (o : IsTotalOrder N.Ord.cmp) → IsStrictlySortedBy (id_cmp N.Ord.cmp) (ids entries.now) → result ≡ standing (id_cmp N.Ord.cmp) entries.now id }
 {
     let sought = Entry {
         id,
@@ -30,7 +30,7 @@ pub(crate) fn standing_in<N: Ord + Copy, T: Copy>(
     used: usize,
     id: Id<N>,
 ) -> Option<Standing<T>>
-    ensures { used ≤ length entries.now → (o : IsTotalOrder N.Ord.cmp) → IsStrictlySortedBy (by_id o).cmp (ids (take used entries.now)) → result ≡ standing (by_id o).cmp (take used entries.now) id }
+    ensures { used ≤ length entries.now → (o : IsTotalOrder N.Ord.cmp) → IsStrictlySortedBy (id_cmp N.Ord.cmp) (ids (take used entries.now)) → result ≡ standing (id_cmp N.Ord.cmp) (take used entries.now) id }
 {
     let used = used.min(entries.len());
     standing_of(&entries[0..used], id)

@@ -56,14 +56,14 @@ impl<'a, K: Kind> Register<'a, K> {
         places: &mut [Place<K::Number>],
     ) -> Result<bool, RegisterFault>
         ensures first { self.now.used ≤ length self.now.entries.now → length places.old ≤ 4096 → Ascending K.Kind.meaning.numbers (take self.now.used self.now.entries.now) → Judged K.Kind.meaning rows.now.supplier (record_at K.Kind.meaning rows.now.supplier (row_in rows.now)) (take self.now.used self.now.entries.now) year (length places.old) (length self.now.entries.now) result }
-        ensures index { length places.old ≤ 4096 → is_ok result ≡ true → Index K.Kind.meaning rows.now.supplier (row_in rows.now) (λ x' y' r'. r' ≡ K.Number.Ord.cmp x' y') places.new }
+        ensures index { length places.old ≤ 4096 → is_ok result ≡ true → Index K.Kind.meaning rows.now.supplier (row_in rows.now) K.Number.Ord.cmp places.new }
     {
         check_run::<K>(&self.entries, self.used, rows, year, places)
     }
 
     // Enters a file that may be entered, by the places of its rows' numbers; nothing, where its entries do not fit.
     pub fn enter(&mut self, rows: &Rows<'_>, year: u16, places: &[Place<K::Number>])
-        ensures entered { Enterable K.Kind.meaning rows.now.supplier (row_in rows.now) (λ x' y' r'. r' ≡ K.Number.Ord.cmp x' y') self.old.entries.now self.old.used year places.now → (self.new.used ≤ length self.new.entries.now) × Entered K.Kind.meaning rows.now.supplier (record_at K.Kind.meaning rows.now.supplier (row_in rows.now)) (take self.old.used self.old.entries.now) year (length places.now) (take self.new.used self.new.entries.now) }
+        ensures entered { Enterable K.Kind.meaning rows.now.supplier (row_in rows.now) K.Number.Ord.cmp self.old.entries.now self.old.used year places.now → (self.new.used ≤ length self.new.entries.now) × Entered K.Kind.meaning rows.now.supplier (record_at K.Kind.meaning rows.now.supplier (row_in rows.now)) (take self.old.used self.old.entries.now) year (length places.now) (take self.new.used self.new.entries.now) }
         ensures left { self.old.used ≤ length self.old.entries.now → Ascending K.Kind.meaning.numbers (take self.old.used self.old.entries.now) → length self.old.entries.now < length (entries_after K.Kind.meaning rows.now.supplier (record_at K.Kind.meaning rows.now.supplier (row_in rows.now)) (take self.old.used self.old.entries.now) year (length places.now)) → (self.new.used ≡ self.old.used) × (self.new.entries.now ≡ self.old.entries.now) }
         ensures run { length self.new.entries.now ≡ length self.old.entries.now }
     {

@@ -1,5 +1,5 @@
-use Rattle.std.proofs.Common.{◌≡◌, ◌≤◌, length, ap, arith}
-use Rattle.fields.specs.Bytes.{value, columns}
+use Rattle.std.proofs.Common.{◌≤◌, length, ap, arith}
+use Rattle.fields.specs.Bytes.{value}
 use Rattle.fields.proofs.Values.{columns_short}
 use Rattle.fields.proofs.bytes.number_in.Goals as goal
 

@@ -1,4 +1,4 @@
-use Rattle.std.proofs.Common.{true, false, sym, refl, ap, ◌∙◌}
+use Rattle.std.proofs.Common.{true, false, refl, ap, ◌∙◌}
 use Rattle.std.specs.Ordering.{is_gt}
 use Rattle.files.proofs.Judged.{judged_by}
 use Rattle.files.proofs.reading.check_order.Goals as goal

@@ -1,4 +1,4 @@
-use Rattle.std.proofs.Common.{◌≡◌, ◌<◌, ◌≤◌, length, Some, None, sym, refl, ap, ◌∙◌, arith, below_more}
+use Rattle.std.proofs.Common.{◌≡◌, ◌<◌, length, Some, None, sym, refl, ap, ◌∙◌, arith, below_more}
 use Rattle.files.specs.Files.{light_fault}
 use Rattle.files.specs.Steps.{Read}
 use Rattle.files.specs.Rows.{row_in}

@@ -1,6 +1,5 @@
 use Rattle.std.proofs.Common.{◌≡◌, ◌+◌, false, ◌&&◌, ◌||◌, get_or, drop, sym, ◌∙◌, arith}
 use Rattle.kinds.specs.declared.cover.Cover.TheVariants.{By}
-use Rattle.kinds.specs.declared.cover.Line.{Line}
 use Rattle.kinds.specs.Cover.{covered_by, differs_under, line}
 use Rattle.kinds.proofs.Walks.{both_more, first_done, second_done}
 use Rattle.kinds.proofs.cover.differs_under.Goals as goal

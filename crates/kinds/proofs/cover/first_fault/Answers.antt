@@ -1,4 +1,4 @@
-use Rattle.std.proofs.Common.{◌≡◌, ◌+◌, false, cond, get_or, drop, Some, sym, refl, ap, ◌∙◌}
+use Rattle.std.proofs.Common.{◌+◌, false, cond, get_or, drop, Some, sym, ap, ◌∙◌}
 use Rattle.kinds.specs.declared.cover.Cover.TheVariants.{By}
 use Rattle.kinds.specs.Cover.{first_line, is_at_fault, line}
 use Rattle.kinds.proofs.Walks.{both_more, first_done, second_done}

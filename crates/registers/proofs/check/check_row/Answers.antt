@@ -3,6 +3,7 @@ use Rattle.std.proofs.lemmas.Result.{err_from_is_err_and}
 use Rattle.files.proofs.Judged.{total_of}
 use Rattle.files.specs.Files.{record_at}
 use Rattle.files.specs.Rows.{row_in}
+use Rattle.registers.proofs.Missed.{ascends_by, standing_by}
 use Rattle.registers.proofs.Rows.{row_judged}
 use Rattle.registers.proofs.check.check_row.Goals as goal
 
@@ -17,7 +18,8 @@ returns-in_err-check_entry g c =
       first = λ up. c.in_err-check_entry.ensures
           ∙ row_judged m rows.supplier c.args.year (record_at m rows.supplier (row_in rows)) c.args.entries.now c.args.i
           c.record-newer.result c.number-number.result c.standing_of.result c.record-newer.ensures c.number-number.ensures
-          (c.standing_of.ensures (total_of m.numbers g.met.K.Kind.numbered) up);
+          (c.standing_of.ensures (total_of m.numbers g.met.K.Kind.numbered) (ascends_by m.numbers g.met.K.Kind.numbered c.args.entries.now up)
+          ∙ standing_by m.numbers g.met.K.Kind.numbered c.args.entries.now _);
     })
 
 pub returns : goal.returns
@@ -29,5 +31,6 @@ returns g c =
       first = λ up. c.in_ok-check_entry.ensures
           ∙ row_judged m rows.supplier c.args.year (record_at m rows.supplier (row_in rows)) c.args.entries.now c.args.i
           c.record-newer.result c.number-number.result c.standing_of.result c.record-newer.ensures c.number-number.ensures
-          (c.standing_of.ensures (total_of m.numbers g.met.K.Kind.numbered) up);
+          (c.standing_of.ensures (total_of m.numbers g.met.K.Kind.numbered) (ascends_by m.numbers g.met.K.Kind.numbered c.args.entries.now up)
+          ∙ standing_by m.numbers g.met.K.Kind.numbered c.args.entries.now _);
     }

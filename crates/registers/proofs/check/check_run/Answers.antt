@@ -53,5 +53,5 @@ returns g c =
                 ∙ fits_same (length ps) (length es) c.in_ok-stay.stay _ (omega (arith, passes.few, length-take c.args.used es)) passes.stays,
           );
       index = λ few _.
-          subst (λ w. Index m s (row_in rows) (λ x' y' r'. r' ≡ g.Number.Ord.cmp x' y') w) (sym (no_rest c.min-n.result ps qs (omega (arith, c.min-n.ensures)))) (c.in_ok-stay.ensures.index refl);
+          subst (λ w. Index m s (row_in rows) g.K.Number.Ord.cmp w) (sym (no_rest c.min-n.result ps qs (omega (arith, c.min-n.ensures)))) (c.in_ok-stay.ensures.index refl);
     }

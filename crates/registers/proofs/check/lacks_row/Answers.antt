@@ -14,5 +14,5 @@ returns-in-Live g c s row index =
     let x = c.args.entry.now.id.number in
     let h = has_row m s (record_at m s row) (length ps) x in
     turned c.is_none.result h _ c.is_none.ensures
-    (row_known m s row ps index o (λ x y. refl) x c.row_of.result (c.row_of.ensures o (index.sorted o)))
+    (row_known m s row ps index o (λ x y. g.met.K.Kind.numbered x y _ refl) x c.row_of.result (c.row_of.ensures o (index.sorted o)))
     ∙ ap (λ st. is_live st && not h) (sym c.in-Live.is)

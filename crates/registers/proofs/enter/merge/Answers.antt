@@ -25,10 +25,10 @@ loop-left-preserved-then-is_above g c =
     c.loop-left.invariant c.loop-left-test.true c.index-own-blocked-then-is_above.result c.index-own-blocked-then-is_above.result c.if-blocked-gt0.true c.index-own-blocked-then-is_above.is c.put.ensures
 
 pub offset_bounds-own-blocked : goal.offset_bounds-own-blocked
-offset_bounds-own-blocked g c = offset_fits _ _ _ c.well-formed.0.1 (omega (arith, c.loop-left.invariant.room))
+offset_bounds-own-blocked g c = offset_fits _ _ _ c.well_formed.0.1 (omega (arith, c.loop-left.invariant.room))
 
 pub offset_bounds-own-blocked-then-is_above : goal.offset_bounds-own-blocked-then-is_above
-offset_bounds-own-blocked-then-is_above g c = offset_fits _ _ _ c.well-formed.0.1 (omega (arith, c.loop-left.invariant.room))
+offset_bounds-own-blocked-then-is_above g c = offset_fits _ _ _ c.well_formed.0.1 (omega (arith, c.loop-left.invariant.room))
 
 pub loop-left-init : goal.loop-left-init
 loop-left-init g c =

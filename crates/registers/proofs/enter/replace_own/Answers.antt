@@ -1,6 +1,5 @@
 use Rattle.std.proofs.Common.{◌≡◌, ◌+◌, ◌-◌, ◌≤◌, ◌++◌, map, length, filter, sym, refl, ap, ◌∙◌, subst, arith}
 use borrow.Rule.Slice.PartMut.{put_mid}
-use Rattle.std.specs.Cmp.Derive.{on}
 use Rattle.std.specs.Ordering.{is_lt}
 use Rattle.std.specs.List.Sorted.{IsSortedWithin, IsPermutation}
 use Rattle.std.proofs.lemmas.List.Sorted.{length_permutation, IsPermutation-trans}
@@ -9,7 +8,7 @@ use Rattle.files.specs.Files.{record_at}
 use Rattle.files.specs.Rows.{row_in}
 use Rattle.registers.specs.Admission.{row_entry}
 use Rattle.registers.specs.Entries.{stays_blocked}
-use Rattle.registers.specs.Ids.{by_id}
+use Rattle.registers.specs.Ids.{id_cmp}
 use Rattle.registers.specs.Own.{part}
 use Rattle.registers.proofs.Memory.{offset_fits}
 use Rattle.registers.proofs.Replacing.{all_is, front_is, length_put, part_is}
@@ -17,13 +16,13 @@ use Rattle.registers.proofs.Shifts.{length_of_part}
 use Rattle.registers.proofs.enter.replace_own.Goals as goal
 
 pub offset_bounds-entries-start : goal.offset_bounds-entries-start
-offset_bounds-entries-start g c = offset_fits _ _ _ c.well-formed.0.1 (omega arith)
+offset_bounds-entries-start g c = offset_fits _ _ _ c.well_formed.0.1 (omega arith)
 
 pub offset_bounds-entries-start-2 : goal.offset_bounds-entries-start-2
-offset_bounds-entries-start-2 g c = offset_fits _ _ _ c.well-formed.0.1 (omega arith)
+offset_bounds-entries-start-2 g c = offset_fits _ _ _ c.well_formed.0.1 (omega arith)
 
 pub offset_bounds-entries-start-3 : goal.offset_bounds-entries-start-3
-offset_bounds-entries-start-3 g c = offset_fits _ _ _ c.well-formed.0.1 (omega arith)
+offset_bounds-entries-start-3 g c = offset_fits _ _ _ c.well_formed.0.1 (omega arith)
 
 pub merge-requires : goal.merge-requires
 merge-requires g c =
@@ -51,7 +50,7 @@ returns g c =
     let own = c.keep_blocked-blocked.new.own in
     let kept = filter (stays_blocked c.args.year) (part start end x0) in
     let merged = c.merge.new.own in
-    let sorted = c.sort.new.self in
+    let sorted = c.sort_unstable.new.self in
     let count = c.keep_blocked-blocked.ensures.count in
     let front = c.keep_blocked-blocked.ensures.front in
     let part-long = length_of_part x0 start end (omega arith) in
@@ -64,7 +63,7 @@ returns g c =
     let x3 = put_mid start (start + b + n - start) x2 merged in
     let here : part start (start + b + n) x3 ≡ merged =
     part_is x0 x2 own kept start end used b n c.requires.within.0 c.requires.within.1 c.requires.within.2 long-own few front room long c.shift.ensures.front c.shift.ensures.moved merged merged long-merged long-merged in
-    let long-sorted : length sorted ≡ start + b + n - start = c.sort.ensures.len ∙ (ap length here ∙ long-merged) in
+    let long-sorted : length sorted ≡ start + b + n - start = c.sort_unstable.ensures.len ∙ (ap length here ∙ long-merged) in
     let blocked = front_is x0 x2 own kept start end used b n c.requires.within.0 c.requires.within.1 c.requires.within.2 long-own few front room long c.shift.ensures.front c.shift.ensures.moved in
     let m = g.K.Kind.meaning in
     let rows = c.args.rows.now in
@@ -72,8 +71,8 @@ returns g c =
     let to-merged : IsPermutation (kept ++ made) merged = subst (λ w. IsPermutation (w ++ made) merged) blocked c.merge.ensures in
     record {
       own = sorted;
-      shuffled = IsPermutation-trans (kept ++ made) merged sorted to-merged (subst (λ w. IsPermutation w sorted) here c.sort.ensures.permutation);
-      ascends = λ o. subst (λ k. IsSortedWithin (λ x y. is_lt ((by_id o).cmp x.id y.id)) sorted 0 k) (sym c.sort.ensures.len) (c.sort.ensures.sorted (on (λ e. e.id) (by_id o)));
+      shuffled = IsPermutation-trans (kept ++ made) merged sorted to-merged (subst (λ w. IsPermutation w sorted) here c.sort_unstable.ensures.permutation);
+      ascends = λ _. c.sort_unstable.ensures.sorted;
       all = all_is x0 x2 own kept start end used b n c.requires.within.0 c.requires.within.1 c.requires.within.2 long-own few front room long c.shift.ensures.front c.shift.ensures.moved merged sorted long-merged long-sorted;
       count = omega (arith, length_permutation (kept ++ made) merged to-merged, long-merged);
     }

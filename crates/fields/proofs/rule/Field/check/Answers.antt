@@ -1,4 +1,4 @@
-use Rattle.std.proofs.Common.{Ok, sym, refl, ap}
+use Rattle.std.proofs.Common.{Ok, refl, ap}
 use Rattle.fields.specs.Rules.{unless}
 use Rattle.fields.proofs.FirstFault.{by_tests}
 use Rattle.fields.proofs.rule.Field.check.Goals as goal
