@@ -3,7 +3,6 @@ use Rattle.std.proofs.Common.{◌≡◌, ℕ, ◌<◌, ◌≤◌, Bool, true, fa
 use mathlib.Core.Path.{subst₃}
 use Rattle.std.specs.Result.{result_err}
 use Rattle.std.specs.List.Sorted.{IsPermutation}
-use Rattle.std.proofs.lemmas.Map.Invariant.{sorted-from-test, test-from-sorted}
 use Rattle.std.proofs.lemmas.Bool.{false≢true, leb-true}
 use Rattle.indexes.specs.declared.Place.{Place}
 use Rattle.kinds.specs.Meaning.{Meaning}
@@ -15,7 +14,7 @@ use Rattle.deliveries.specs.Delivery.{RowsOf, supplier}
 use Rattle.registers.specs.declared.entry.Entry.{Entry}
 use Rattle.registers.specs.declared.fault.RegisterFault.{RegisterFault}
 use Rattle.registers.specs.Admission.{Entered, Judged, entries_after, register_fault}
-use Rattle.registers.specs.Entries.{Ascending, ascends, ids}
+use Rattle.registers.specs.Entries.{Ascending}
 use Rattle.registers.specs.Ids.{compare_ids}
 use Rattle.registers.specs.Indexes.{Enterable, Index}
 use Rattle.books.specs.declared.fault.BookFault.{BookFault}
@@ -37,7 +36,7 @@ rows_are bs start len rows of = λ i k. row_of (of.bytes i) (of.length_is i) k
 -- the first u entries of a run after a file
 pub record DoneFile {R W N K : Type 0} (m : Meaning R W N K) (s : ℕ) (row : ℕ → List ℕ) (es : List (Entry N W)) (year count : ℕ) (after : List (Entry N W)) (u : ℕ) : Type 0 where
   pub within : u ≤ length after
-  pub ascends : T (ascends m.numbers (take u after))
+  pub ascends : Ascending m.numbers (take u after)
   pub shuffled : IsPermutation (entries_after m s (record_at m s row) es year count) (take u after)
 
 module _ {R W N K : Type 0} (m : Meaning R W N K) (bs : List ℕ) (start len : ℕ) (rows : Rows) (of : RowsOf bs start len rows) where
@@ -51,10 +50,10 @@ module _ {R W N K : Type 0} (m : Meaning R W N K) (bs : List ℕ) (start len : �
       (subst (λ w. Judged m (supplier bs) (record_at m (supplier bs) (λ k. row_of (drop start bs) len k)) es w count room r) is-year
       (subst₃ (λ s row c. Judged m s (record_at m s row) es y c room r) of.supplier_is (rows_are bs start len rows of) is-count h))
 
-  pub file_indexed : (P : N → N → Ordering → Type 0) (ps : List (Place N)) → Index m rows.supplier (row_in rows) P ps → Index m (supplier bs) (λ k. row_of (drop start bs) len k) P ps
+  pub file_indexed : (P : N → N → Ordering) (ps : List (Place N)) → Index m rows.supplier (row_in rows) P ps → Index m (supplier bs) (λ k. row_of (drop start bs) len k) P ps
   file_indexed P ps h = subst₂ (λ s row. Index m s row P ps) of.supplier_is (rows_are bs start len rows of) h
 
-  pub may_enter : (P : N → N → Ordering → Type 0) (run : List (Entry N W)) (used y year count : ℕ) (ps : List (Place N)) → y ≡ year → length ps ≡ count →
+  pub may_enter : (P : N → N → Ordering) (run : List (Entry N W)) (used y year count : ℕ) (ps : List (Place N)) → y ≡ year → length ps ≡ count →
       used ≤ length run → Ascending m.numbers (take used run) → Index m (supplier bs) (λ k. row_of (drop start bs) len k) P ps →
       SoundRows m (supplier bs) (λ k. row_of (drop start bs) len k) count →
       register_fault m (supplier bs) (record_at m (supplier bs) (λ k. row_of (drop start bs) len k)) (take used run) year count ≡ None →
@@ -79,17 +78,17 @@ module _ {R W N K : Type 0} (m : Meaning R W N K) (bs : List ℕ) (start len : �
       (subst₃ (λ s row c. Entered m s (record_at m s row) es y c after) of.supplier_is (rows_are bs start len rows of) is-count h)
 
   -- a file that the register took, as the bytes have it
-  pub file_done : (P : N → N → Ordering → Type 0) (run after : List (Entry N W)) (used u y year count : ℕ) (ps : List (Place N)) → y ≡ year → length ps ≡ count →
-      used ≤ length run → T (ascends m.numbers (take used run)) → Index m (supplier bs) (λ k. row_of (drop start bs) len k) P ps →
+  pub file_done : (P : N → N → Ordering) (run after : List (Entry N W)) (used u y year count : ℕ) (ps : List (Place N)) → y ≡ year → length ps ≡ count →
+      used ≤ length run → Ascending m.numbers (take used run) → Index m (supplier bs) (λ k. row_of (drop start bs) len k) P ps →
       SoundRows m (supplier bs) (λ k. row_of (drop start bs) len k) count →
       register_fault m (supplier bs) (record_at m (supplier bs) (λ k. row_of (drop start bs) len k)) (take used run) year count ≡ None →
       length (entries_after m (supplier bs) (record_at m (supplier bs) (λ k. row_of (drop start bs) len k)) (take used run) year count) ≤ length run →
       (Enterable m rows.supplier (row_in rows) P run used y ps → (u ≤ length after) × Entered m rows.supplier (record_at m rows.supplier (row_in rows)) (take used run) y (length ps) (take u after)) →
       DoneFile m (supplier bs) (λ k. row_of (drop start bs) len k) (take used run) year count after u
   file_done P run after used u y year count ps is-year is-count within up index sound none room enters =
-      let e = enters (may_enter P run used y year count ps is-year is-count within (sorted-from-test (compare_ids m.numbers) (ids (take used run)) up) index sound none room) in
+      let e = enters (may_enter P run used y year count ps is-year is-count within up index sound none room) in
       let d = file_entered (take used run) (take u after) y year (length ps) count is-year is-count e.1 in
-      record { within = e.0; ascends = test-from-sorted (compare_ids m.numbers) (ids (take u after)) d.ascending; shuffled = d.shuffled }
+      record { within = e.0; ascends = d.ascending; shuffled = d.shuffled }
 
 -- what no fault says of the line, the files and the runs
 pub record Clear (line : Option LineFault) (g s p : Option RegisterFault) (a b c x y z : ℕ) : Type 0 where

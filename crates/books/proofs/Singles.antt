@@ -1,10 +1,9 @@
 -- One line a supplier, also after an admission.
 use Rattle.std.proofs.Common.{◌≡◌, Bool, true, false, cond, T, eqb, List, [], ◌∷◌, sym, refl, ap, ◌∙◌, subst}
 use Rattle.std.specs.List.{IsDistinct, AllByRecursion as All}
-use Rattle.std.proofs.lemmas.Map.Invariant.{distinct-from-test, test-from-distinct}
 use Rattle.std.proofs.lemmas.Bool.{eqb-true}
 use Rattle.books.specs.declared.lines.Line.{Line}
-use Rattle.books.specs.Lines.{noted, single_lines_lem}
+use Rattle.books.specs.Lines.{SingleLines, noted}
 
 alike : Line → Line → Bool
 alike x y = eqb x.supplier y.supplier
@@ -18,17 +17,13 @@ noted_all P (x ∷ ls) l h p = go (eqb x.supplier l.supplier) (noted_all P ls l 
     go true r = (p, h.1)
     go false r = (h.0, r)
 
-distinct_noted : (ls : List Line) (l : Line) → IsDistinct (λ x y. eqb x.supplier y.supplier) ls → IsDistinct (λ x y. eqb x.supplier y.supplier) (noted ls l)
+pub noted_single : (ls : List Line) (l : Line) → SingleLines ls → SingleLines (noted ls l)
 unfolding IsDistinct
-distinct_noted [] l h = (tt, tt)
-distinct_noted (x ∷ ls) l h = go (eqb x.supplier l.supplier) refl (distinct_noted ls l h.1) (λ e. noted_all (λ y. eqb x.supplier y.supplier ≡ false) ls l h.0 e)
+noted_single [] l h = (tt, tt)
+noted_single (x ∷ ls) l h = go (eqb x.supplier l.supplier) refl (noted_single ls l h.1) (λ e. noted_all (λ y. eqb x.supplier y.supplier ≡ false) ls l h.0 e)
   where
     go : (b : Bool) → eqb x.supplier l.supplier ≡ b → IsDistinct (λ x y. eqb x.supplier y.supplier) (noted ls l) →
         (eqb x.supplier l.supplier ≡ false → All (λ y. eqb x.supplier y.supplier ≡ false) (noted ls l)) →
         IsDistinct (λ x y. eqb x.supplier y.supplier) (cond b (l ∷ ls) (x ∷ noted ls l))
     go true e r above = (subst (λ n. All (λ y. eqb n y.supplier ≡ false) ls) (eqb-true x.supplier l.supplier e) h.0, h.1)
     go false e r above = (above e, r)
-
-pub noted_single : (ls : List Line) (l : Line) → T (single_lines_lem ls) → T (single_lines_lem (noted ls l))
-noted_single ls l h =
-    test-from-distinct (λ x y. eqb x.supplier y.supplier) (noted ls l) (distinct_noted ls l (distinct-from-test (λ x y. eqb x.supplier y.supplier) ls h))

@@ -1,7 +1,7 @@
 -- The lines of a book: which delivery follows which, and what an admission notes.
-use Rattle.std.specs.Prelude.{ℕ, suc, ◌+◌, Bool, true, false, cond, not, ◌&&◌, ◌||◌, List, [], ◌∷◌, length, is_some, Some, None, Option, ◌==◌, nat_eq, nat_le}
+use Rattle.std.specs.Prelude.{ℕ, suc, ◌+◌, Bool, true, false, cond, not, ◌&&◌, ◌||◌, List, [], ◌∷◌, length, is_some, Some, None, Option, ◌==◌, nat_le}
 use Rattle.std.specs.Ordering.{is_lt, ordering_then, nat_cmp}
-use Rattle.std.specs.Map.Invariant.{is-distinct}
+use Rattle.std.specs.List.{IsDistinct}
 use Rattle.fields.specs.declared.date.Date.{Date}
 use Rattle.deliveries.specs.declared.head.Head.{Head}
 use Rattle.books.specs.declared.fault.LineFault.{LineFault}
@@ -50,8 +50,8 @@ noted [] l = l ∷ []
 noted (x ∷ xs) l = cond (x.supplier == l.supplier) (l ∷ xs) (x ∷ noted xs l)
 
 -- one line a supplier
-abbrev pub single_lines_lem : List Line → Bool
-single_lines_lem ls = is-distinct (λ x y. nat_eq x.supplier y.supplier) ls
+abbrev pub SingleLines : List Line → Type 0
+SingleLines ls = IsDistinct (λ x y. x.supplier == y.supplier) ls
 
 -- the place of a supplier's line, or the next one
 abbrev pub place : List Line → ℕ → ℕ

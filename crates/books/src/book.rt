@@ -1,10 +1,11 @@
 // The book of all suppliers: three registers and the lines.
-ghost use Rattle.std.specs.Prelude.{◌≤◌, T, length, take};
-ghost use Rattle.books.specs.Lines.{single_lines_lem};
+ghost use Rattle.std.specs.Prelude.{◌≤◌, length, take};
+ghost use Rattle.books.specs.Lines.{SingleLines};
 ghost use Rattle.kinds.specs.FareTable.{fare_table_meaning};
 ghost use Rattle.kinds.specs.Series.{series_meaning};
 ghost use Rattle.kinds.specs.Station.{station_meaning};
-ghost use Rattle.registers.specs.Entries.{ascends};
+ghost use Rattle.registers.specs.Entries.{Ascending};
+ghost use Rattle.std.proofs.lemmas.Map.Keys.{IsDistinct-prop, IsStrictlySortedBy-prop};
 
 use crate::lines::Lines;
 use kinds::fare_table::FareTable;
@@ -22,9 +23,9 @@ pub struct Book<'a> {
     ghost stations_within: { stations.used ≤ length stations.entries.now },
     ghost series_within: { series.used ≤ length series.entries.now },
     ghost tables_within: { tables.used ≤ length tables.entries.now },
-    ghost stations_ascend: { T (ascends station_meaning.numbers (take stations.used stations.entries.now)) },
-    ghost series_ascend: { T (ascends series_meaning.numbers (take series.used series.entries.now)) },
-    ghost tables_ascend: { T (ascends fare_table_meaning.numbers (take tables.used tables.entries.now)) },
+    ghost stations_ascend: { Ascending station_meaning.numbers (take stations.used stations.entries.now) } by { IsStrictlySortedBy-prop _ _ },
+    ghost series_ascend: { Ascending series_meaning.numbers (take series.used series.entries.now) } by { IsStrictlySortedBy-prop _ _ },
+    ghost tables_ascend: { Ascending fare_table_meaning.numbers (take tables.used tables.entries.now) } by { IsStrictlySortedBy-prop _ _ },
     ghost few_lines: { lines.used ≤ 16 },
-    ghost single_lines: { T (single_lines_lem (take lines.used lines.lines)) },
+    ghost single_lines: { SingleLines (take lines.used lines.lines) } by { IsDistinct-prop _ _ },
 }

@@ -1,11 +1,11 @@
-use Rattle.std.proofs.Common.{◌≡◌, T, take, sym, ap, ◌∙◌, subst}
+use Rattle.std.proofs.Common.{◌≡◌, take, sym, ap, ◌∙◌, subst}
 use Rattle.kinds.specs.FareTable.{fare_table_meaning}
-use Rattle.kinds.specs.Orders.{ranks}
+use Rattle.std.specs.Ordering.{nat_cmp}
 use Rattle.kinds.specs.Series.{series_meaning}
 use Rattle.kinds.specs.Station.{station_meaning}
 use Rattle.deliveries.specs.Delivery.{series_count, series_row, station_count, station_row, supplier, table_count, table_row}
 use Rattle.books.specs.Admission.{book_fault}
-use Rattle.books.specs.Lines.{line_after, line_fault, noted, single_lines_lem}
+use Rattle.books.specs.Lines.{SingleLines, line_after, line_fault, noted}
 use Rattle.books.proofs.Judging.{DoneFile, clear, file_done}
 use Rattle.books.proofs.Singles.{noted_single}
 use Rattle.books.proofs.book.Book.enter.Goals as goal
@@ -33,39 +33,28 @@ done c =
     let files = c.files-files.ensures in
     let all = clear _ _ _ _ _ _ _ _ _ _ c.requires.none in
     let year : c.year-year.result ≡ d.head.first_day.year = c.year-year.ensures ∙ ap (λ h. h.first_day.year) c.head-head.ensures.0 in
-    let g = file_done station_meaning d.bytes.now _ _ c.files-files.result.stations files.stations ranks self.stations.entries.now c.enter.new.self.entries.now self.stations.used c.enter.new.self.used _ _ _ c.args.stations.now
+    let g = file_done station_meaning d.bytes.now _ _ c.files-files.result.stations files.stations nat_cmp self.stations.entries.now c.enter.new.self.entries.now self.stations.used c.enter.new.self.used _ _ _ c.args.stations.now
     year c.requires.places.station_count_is self.stations_within self.stations_ascend c.requires.places.stations files.sound.stations all.stations all.stations_fit c.enter.ensures.entered in
-    let s = file_done series_meaning d.bytes.now _ _ c.files-files.result.series files.series ranks self.series.entries.now c.enter-2.new.self.entries.now self.series.used c.enter-2.new.self.used _ _ _ c.args.series.now
+    let s = file_done series_meaning d.bytes.now _ _ c.files-files.result.series files.series nat_cmp self.series.entries.now c.enter-2.new.self.entries.now self.series.used c.enter-2.new.self.used _ _ _ c.args.series.now
     year c.requires.places.series_count_is self.series_within self.series_ascend c.requires.places.series files.sound.all_series all.series all.series_fit c.enter-2.ensures.entered in
-    let p = file_done fare_table_meaning d.bytes.now _ _ c.files-files.result.tables files.tables ranks self.tables.entries.now c.enter-3.new.self.entries.now self.tables.used c.enter-3.new.self.used _ _ _ c.args.tables.now
+    let p = file_done fare_table_meaning d.bytes.now _ _ c.files-files.result.tables files.tables nat_cmp self.tables.entries.now c.enter-3.new.self.entries.now self.tables.used c.enter-3.new.self.used _ _ _ c.args.tables.now
     year c.requires.places.table_count_is self.tables_within self.tables_ascend c.requires.places.tables files.sound.tables all.tables all.tables_fit c.enter-3.ensures.entered in
     (g, s, p)
 
 pub invariant_of-self : goal.invariant_of-self
 invariant_of-self c =
     let self = c.args.self.now in
-    let d = done c in (
-      d.0.within,
-      (
-        d.1.within,
-        (
-          d.2.within,
-          (
-            d.0.ascends,
-            (
-              d.1.ascends,
-              (
-                d.2.ascends,
-                (
-                  c.note.ensures.used,
-                  (subst (λ ls. T (single_lines_lem ls)) (sym c.note.ensures.lines) (noted_single (take self.lines.used self.lines.lines) (line_after c.head-head.result) self.single_lines), tt),
-                ),
-              ),
-            ),
-          ),
-        ),
-      ),
-    )
+    let d = done c in
+    record {
+      stations_within = d.0.within;
+      series_within = d.1.within;
+      tables_within = d.2.within;
+      stations_ascend = d.0.ascends;
+      series_ascend = d.1.ascends;
+      tables_ascend = d.2.ascends;
+      few_lines = c.note.ensures.used;
+      single_lines = subst SingleLines (sym c.note.ensures.lines) (noted_single (take self.lines.used self.lines.lines) (line_after c.head-head.result) self.single_lines);
+    }
 
 pub returns : goal.returns
 returns c =

@@ -1,6 +1,5 @@
 use Rattle.std.proofs.Common.{◌≡◌, take, None, fold, sym, ap, ◌∙◌}
 use Rattle.std.specs.Option.{option_map}
-use Rattle.std.proofs.lemmas.Map.Invariant.{sorted-from-test}
 use Rattle.kinds.specs.Series.{series_meaning}
 use Rattle.registers.specs.Ids.{compare_ids}
 use Rattle.books.specs.Join.{joined, with_series}
@@ -12,7 +11,7 @@ unfolding joined
 returns c =
     let book = c.args.self.now in
     let es = take book.series.used book.series.entries.now in
-    let own = c.own.ensures book.series_within (sorted-from-test (compare_ids series_meaning.numbers) _ book.series_ascend) in
+    let own = c.own.ensures book.series_within book.series_ascend in
     let value = c.join_among.ensures
     ∙ ap (option_map (λ x. x.1)) (ap (fold (with_series c.args.one c.args.other) None) own ∙ sym (folded_own c.args.supplier c.args.one c.args.other es None)) in
     record { value = value; nearest = nearest_is c.args.supplier c.args.one c.args.other es c.join_among.result value }

@@ -1,8 +1,7 @@
 use Rattle.std.proofs.Common.{◌≡◌, ◌≤◌, length, take, sym, refl, ap, ◌∙◌, arith}
-use Rattle.std.proofs.lemmas.Map.Invariant.{sorted-from-test}
 use Rattle.kinds.specs.FareTable.{fare_table_meaning}
 use Rattle.kinds.specs.Meaning.{Meaning}
-use Rattle.kinds.specs.Orders.{ranks}
+use Rattle.std.specs.Ordering.{nat_cmp}
 use Rattle.kinds.specs.Series.{series_meaning}
 use Rattle.kinds.specs.Station.{station_meaning}
 use Rattle.deliveries.proofs.Heads.{whole}
@@ -29,19 +28,19 @@ returns c =
     let year : c.year-year.result ≡ d.head.first_day.year = c.year-year.ensures ∙ ap (λ h. h.first_day.year) c.head-head.ensures.0 in
     let line = line_is c.check.result _ (c.check.ensures ∙ ap (line_fault (take self.lines.used self.lines.lines) self.lines.receipts) c.head-head.ensures.0) in
     let stations = file_judged station_meaning bs _ _ c.files-files.result.stations files.stations _ _ d.head.first_day.year _ _ _ c.check-2.result c.requires.stations year
-    (c.check-2.ensures.first self.stations_within few (sorted-from-test (compare_ids station_meaning.numbers) _ self.stations_ascend)) in
+    (c.check-2.ensures.first self.stations_within few self.stations_ascend) in
     let series = file_judged series_meaning bs _ _ c.files-files.result.series files.series _ _ d.head.first_day.year _ _ _ c.check-3.result c.requires.series year
-    (c.check-3.ensures.first self.series_within few_series (sorted-from-test (compare_ids series_meaning.numbers) _ self.series_ascend)) in
+    (c.check-3.ensures.first self.series_within few_series self.series_ascend) in
     let tables = file_judged fare_table_meaning bs _ _ c.files-files.result.tables files.tables _ _ d.head.first_day.year _ _ _ c.check-4.result c.requires.tables year
-    (c.check-4.ensures.first self.tables_within few_tables (sorted-from-test (compare_ids fare_table_meaning.numbers) _ self.tables_ascend)) in
+    (c.check-4.ensures.first self.tables_within few_tables self.tables_ascend) in
     record {
       fault = c.first_fault.ensures ∙ (λ i. first_of (line i) (stations i) (series i) (tables i));
       index = λ ok.
           let taken = all_taken c.first_fault.result c.check.result c.check-2.result c.check-3.result c.check-4.result c.first_fault.ensures ok in
           record {
-            stations = file_indexed station_meaning bs _ _ c.files-files.result.stations files.stations ranks _ (c.check-2.ensures.index few taken.0);
-            series = file_indexed series_meaning bs _ _ c.files-files.result.series files.series ranks _ (c.check-3.ensures.index few_series taken.1);
-            tables = file_indexed fare_table_meaning bs _ _ c.files-files.result.tables files.tables ranks _ (c.check-4.ensures.index few_tables taken.2);
+            stations = file_indexed station_meaning bs _ _ c.files-files.result.stations files.stations nat_cmp _ (c.check-2.ensures.index few taken.0);
+            series = file_indexed series_meaning bs _ _ c.files-files.result.series files.series nat_cmp _ (c.check-3.ensures.index few_series taken.1);
+            tables = file_indexed fare_table_meaning bs _ _ c.files-files.result.tables files.tables nat_cmp _ (c.check-4.ensures.index few_tables taken.2);
             station_count_is = c.check-2.auto.places ∙ c.requires.stations;
             series_count_is = c.check-3.auto.places ∙ c.requires.series;
             table_count_is = c.check-4.auto.places ∙ c.requires.tables;

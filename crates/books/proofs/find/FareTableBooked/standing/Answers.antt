@@ -1,7 +1,6 @@
-use Rattle.std.proofs.lemmas.Map.Invariant.{sorted-from-test}
 use Rattle.kinds.specs.FareTable.{fare_table_meaning}
 use Rattle.registers.specs.Ids.{compare_ids}
 use Rattle.books.proofs.find.FareTableBooked.standing.Goals as goal
 
 pub returns : goal.returns
-returns c = let book = c.args.book.now in c.standing.ensures book.tables_within (sorted-from-test (compare_ids fare_table_meaning.numbers) _ book.tables_ascend)
+returns c = let book = c.args.book.now in c.standing.ensures book.tables_within book.tables_ascend

@@ -1,7 +1,6 @@
-use Rattle.std.proofs.lemmas.Map.Invariant.{sorted-from-test}
 use Rattle.kinds.specs.Series.{series_meaning}
 use Rattle.registers.specs.Ids.{compare_ids}
 use Rattle.books.proofs.find.SeriesBooked.standing.Goals as goal
 
 pub returns : goal.returns
-returns c = let book = c.args.book.now in c.standing.ensures book.series_within (sorted-from-test (compare_ids series_meaning.numbers) _ book.series_ascend)
+returns c = let book = c.args.book.now in c.standing.ensures book.series_within book.series_ascend

@@ -1,7 +1,6 @@
-use Rattle.std.proofs.lemmas.Map.Invariant.{sorted-from-test}
 use Rattle.kinds.specs.Station.{station_meaning}
 use Rattle.registers.specs.Ids.{compare_ids}
 use Rattle.books.proofs.find.StationBooked.standing.Goals as goal
 
 pub returns : goal.returns
-returns c = let book = c.args.book.now in c.standing.ensures book.stations_within (sorted-from-test (compare_ids station_meaning.numbers) _ book.stations_ascend)
+returns c = let book = c.args.book.now in c.standing.ensures book.stations_within book.stations_ascend
