@@ -140,14 +140,18 @@ fn answer(
         [b'j', ..] => Ok(join(heap, book, asked.as_bytes())?),
         [b'e', ..] => admit_empties(heap, book, asked.as_bytes()),
         _ => {
-            let bytes = delivery(heap, asked).ok_or("a delivery is not understood")?;
+            let Some(bytes) = delivery(heap, asked) else {
+                return Err(Fail::new(format_args!("a delivery is not understood: {asked}")));
+            };
             Ok(admit(heap, book, bytes.as_slice(), with_sentence)?)
         }
     }
 }
 
 fn try_line(rt: &impl Abort, heap: Global, book: &mut Book<'_>, line: &str) -> Result<(), Fail> {
-    let (asked, expected) = line.split_once(" => ").ok_or("a line expects nothing")?;
+    let Some((asked, expected)) = line.split_once(" => ") else {
+        return Err(Fail::new(format_args!("a line expects nothing: {line}")));
+    };
     match asked.as_bytes() {
         [b'f', ..] => try_find(rt, heap, book, asked.as_bytes(), expected),
         _ => {
@@ -185,7 +189,7 @@ fn try_script(rt: &impl Abort, heap: Global, script: &str) -> Result<(), Fail> {
         tables.as_mut_slice(),
     );
     for line in script.lines().skip(1) {
-        try_line(rt, heap, &mut book, line).note(line)?;
+        try_line(rt, heap, &mut book, line)?;
     }
     Ok(())
 }

@@ -8,6 +8,7 @@ mod status;
 
 use deliveries::delivery::Delivery;
 use status::Status;
+use std::process::ExitCode;
 use std::{env, fs, io};
 
 const HELP: &str = "\
@@ -96,13 +97,13 @@ fn run(rt: &HostRuntime) -> io::Result<Status> {
     }
 }
 
-fn main(rt: HostRuntime) -> Result<(), Status> {
+fn main(rt: HostRuntime) -> ExitCode {
     match run(&rt) {
-        Ok(Status::Done) => Ok(()),
-        Ok(Status::Failed) => Err(Status::Failed),
+        Ok(Status::Done) => ExitCode::SUCCESS,
+        Ok(Status::Failed) => ExitCode::FAILURE,
         Err(error) => {
             let _ = eprintln!(rt; "intake: {error}");
-            Err(Status::Failed)
+            ExitCode::FAILURE
         }
     }
 }
