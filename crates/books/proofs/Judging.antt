@@ -1,5 +1,5 @@
 -- The first fault of a delivery by the answers of the line and the three registers.
-use Rattle.std.proofs.Common.{◌≡◌, ℕ, ◌<◌, ◌≤◌, Bool, true, false, T, leb, List, length, take, drop, is_ok, Some, None, Ok, Err, Option, Result, Ordering, sym, refl, ap, ◌∙◌, subst, subst₂, MatchResult}
+use Rattle.std.proofs.Common.{◌≡◌, ℕ, ◌<◌, ◌≤◌, Bool, true, false, leb, List, length, take, drop, is_ok, Some, None, Ok, Err, Option, Result, Ordering, sym, refl, ap, ◌∙◌, subst, subst₂, MatchResult}
 use mathlib.Core.Path.{subst₃}
 use Rattle.std.specs.Result.{result_err}
 use Rattle.std.specs.List.Sorted.{IsPermutation}
@@ -15,7 +15,6 @@ use Rattle.registers.specs.declared.entry.Entry.{Entry}
 use Rattle.registers.specs.declared.fault.RegisterFault.{RegisterFault}
 use Rattle.registers.specs.Admission.{Entered, Judged, entries_after, register_fault}
 use Rattle.registers.specs.Entries.{Ascending}
-use Rattle.registers.specs.Ids.{compare_ids}
 use Rattle.registers.specs.Indexes.{Enterable, Index}
 use Rattle.books.specs.declared.fault.BookFault.{BookFault}
 use Rattle.books.specs.declared.fault.LineFault.{LineFault}

@@ -1,5 +1,5 @@
 -- One line a supplier, also after an admission.
-use Rattle.std.proofs.Common.{◌≡◌, Bool, true, false, cond, T, eqb, List, [], ◌∷◌, sym, refl, ap, ◌∙◌, subst}
+use Rattle.std.proofs.Common.{◌≡◌, Bool, true, false, cond, eqb, List, [], ◌∷◌, refl, subst}
 use Rattle.std.specs.List.{IsDistinct, AllByRecursion as All}
 use Rattle.std.proofs.lemmas.Bool.{eqb-true}
 use Rattle.books.specs.declared.lines.Line.{Line}

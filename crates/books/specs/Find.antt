@@ -1,5 +1,5 @@
 -- What find answers, and what it tells.
-use Rattle.std.specs.Prelude.{ℕ, Some, None, Option}
+use Rattle.std.specs.Prelude.{Some, None, Option}
 use Rattle.registers.specs.declared.entry.Standing.{Standing}
 use Rattle.registers.specs.declared.entry.Standing.TheVariants.{Live, Retired}
 use Rattle.registers.specs.Entries.{free_from}

@@ -1,5 +1,5 @@
 -- The sorted places of the rows of a delivery's three files.
-use Rattle.std.specs.Prelude.{◌≡◌, ℕ, ◌<◌, List, length}
+use Rattle.std.specs.Prelude.{◌≡◌, ℕ, List, length}
 use Rattle.indexes.specs.declared.Place.{Place}
 use Rattle.kinds.specs.FareTable.{fare_table_meaning}
 use Rattle.std.specs.Ordering.{nat_cmp}

@@ -1,5 +1,5 @@
 -- A fresh book and its first delivery, and what follows it.
-use Rattle.std.proofs.Common.{◌≡◌, ℕ, ◌+◌, Bool, true, cond, ◌&&◌, ◌||◌, eqb, leb, List, [], length, Some, None, Ok, sym, refl, ap, ◌∙◌, arith}
+use Rattle.std.proofs.Common.{◌≡◌, ℕ, ◌+◌, Bool, true, cond, ◌&&◌, ◌||◌, eqb, leb, length, Some, None, Ok, ◌∙◌, arith}
 use Rattle.std.specs.Ordering.{is_lt, ordering_then, nat_cmp}
 use Rattle.std.proofs.lemmas.Bool.{le-leb}
 use Rattle.fields.specs.Bytes.{columns, value}

@@ -1,10 +1,9 @@
 -- Worked examples of the format, in one statement on the definitions that the contracts use.
-use Rattle.std.specs.Prelude.{◌≡◌, ℕ, Bool, true, false, List, ◌++◌, is_ok, Some, None, Ok, Err, codes, Option}
+use Rattle.std.specs.Prelude.{◌≡◌, ℕ, Bool, true, false, List, ◌++◌, is_ok, Some, None, Err, codes}
 use Rattle.fields.specs.declared.date.Date.{Date}
 use Rattle.fields.specs.declared.fault.FieldFault.TheVariants.{NotAllowed}
 use Rattle.fields.specs.declared.flags.KeyFlag.TheVariants.{Deletion, New}
 use Rattle.fields.specs.Calendar.{date}
-use Rattle.kinds.specs.declared.fare_table.FareTable.{FareTable}
 use Rattle.kinds.specs.declared.station.Station.{Station}
 use Rattle.kinds.specs.FareTable.{fare_table_meaning}
 use Rattle.kinds.specs.Meaning.{compares, reads}

@@ -1,17 +1,15 @@
 -- The entries after a file are a shuffle of those that the rules define, and ascend again.
-use Rattle.std.proofs.Common.{◌≡◌, ℕ, zero, suc, ◌+◌, ◌-◌, ◌<◌, ◌≤◌, Bool, true, false, cond, not, ◌&&◌, eqb, List, [], ◌∷◌, ◌++◌, map, length, get_or, take, drop, Some, None, count_by, filter, Option, Ordering, Less, Equal, Greater, sym, refl, ap, ◌∙◌, subst, ⊎_elim, arith}
-use mathlib.Core.List.{map-map}
+use Rattle.std.proofs.Common.{◌≡◌, ℕ, zero, suc, ◌+◌, ◌-◌, ◌<◌, ◌≤◌, Bool, true, false, cond, not, ◌&&◌, eqb, List, [], ◌∷◌, ◌++◌, map, length, get_or, take, drop, Some, None, count_by, filter, Less, Equal, Greater, sym, refl, ap, ◌∙◌, subst, arith}
 use Rattle.std.specs.List.{range_with_len, AllByRecursion as All}
-use Rattle.std.specs.Cmp.{IsTotalOrder, alike_right, tied_back}
-use Rattle.std.specs.Ordering.{is_eq, is_lt, ordering_then}
+use Rattle.std.specs.Cmp.{alike_right, tied_back}
+use Rattle.std.specs.Ordering.{is_lt, ordering_then}
 use Rattle.std.specs.List.Sorted.{IsSortedWithin, IsPermutation, IsStrictlySortedBy}
 use Rattle.std.proofs.lemmas.List.FromFn.{get_or-map-range_with_len, length-map-range_with_len, map-range_with_len_more}
-use Rattle.std.proofs.ByRecursion.{All-append, All-from_get_or, all_kept_by, All-map, All-weaker, all_shuffled}
+use Rattle.std.proofs.ByRecursion.{All-append, all_kept_by, All-map, All-weaker, all_shuffled}
 use Rattle.std.proofs.lemmas.List.{append_assoc, drop-map, get_or-drop, get_or-take, length-drop, length-take, map-append, take-map}
-use Rattle.std.proofs.lemmas.List.Sorted.{IsPermutation-refl, IsPermutation-trans}
+use Rattle.std.proofs.lemmas.List.Sorted.{IsPermutation-trans}
 use Rattle.std.proofs.lemmas.List.Sums.{sum_by_push}
-use Rattle.std.proofs.lemmas.Bool.{cases_Bool, cond-true, lt-ltb, false≢true}
-use Rattle.indexes.specs.declared.Place.{Place}
+use Rattle.std.proofs.lemmas.Bool.{cond-true, lt-ltb, false≢true}
 use Rattle.kinds.specs.Meaning.{Meaning, Order}
 use Rattle.files.proofs.Firsts.{some_none}
 use Rattle.registers.specs.declared.entry.Entry.{Entry}
@@ -20,7 +18,7 @@ use Rattle.registers.specs.declared.entry.Standing.{Standing}
 use Rattle.registers.specs.declared.entry.Standing.TheVariants.{Live, Retired}
 use Rattle.registers.specs.declared.fault.EntryFault.TheVariants.{Blocked}
 use Rattle.registers.specs.Admission.{Entered, beside, entries_after, row_entry, row_id, row_refusal, told_number}
-use Rattle.registers.specs.Entries.{Ascending, ids, is_blocked, is_own, standing, stays_blocked}
+use Rattle.registers.specs.Entries.{Ascending, ids, is_blocked, is_own, stays_blocked}
 use Rattle.registers.specs.Ids.{compare_ids}
 use Rattle.registers.specs.Own.{OwnPart, part}
 use Rattle.registers.proofs.Apart.{Apart, apart_append, apart_ascending, apart_shuffled, count_some, has_id, strict}

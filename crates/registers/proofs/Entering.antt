@@ -1,5 +1,5 @@
 -- Entering a file into the used entries of a run gives what the rules define.
-use Rattle.std.proofs.Common.{◌≡◌, ℕ, ◌+◌, ◌-◌, ◌<◌, ◌≤◌, List, ◌++◌, map, length, take, drop, Some, None, filter, Option, Ordering, sym, refl, ap, ◌∙◌, subst, arith}
+use Rattle.std.proofs.Common.{◌≡◌, ℕ, ◌+◌, ◌<◌, ◌≤◌, List, ◌++◌, map, length, take, drop, Some, None, filter, Option, Ordering, sym, refl, ap, ◌∙◌, subst, arith}
 use mathlib.Core.List.{map-map}
 use Rattle.std.specs.List.{range_with_len}
 use Rattle.std.specs.List.Sorted.{IsPermutation, IsSortedWithin}
@@ -18,13 +18,13 @@ use Rattle.files.proofs.Judged.{one_order, total_of}
 use Rattle.registers.specs.declared.entry.Entry.{Entry}
 use Rattle.registers.specs.declared.fault.EntryFault.{EntryFault}
 use Rattle.registers.specs.declared.fault.RegisterFault.{RegisterFault}
-use Rattle.registers.specs.Admission.{Entered, at_row, entries_after, missing_refusal, register_fault, row_entry, row_refusal, rows_refusal}
+use Rattle.registers.specs.Admission.{Entered, at_row, entries_after, missing_refusal, register_fault, row_entry, row_refusal}
 use Rattle.registers.specs.Entries.{Ascending, stays_blocked}
 use Rattle.registers.specs.Ids.{id_cmp}
 use Rattle.registers.specs.Indexes.{Enterable, row_place}
 use Rattle.registers.specs.Own.{OwnPart, Replaced, Staying, part}
 use Rattle.registers.proofs.Entered.{entered}
-use Rattle.registers.proofs.Shifts.{length_of_part, part_take}
+use Rattle.registers.proofs.Shifts.{part_take}
 use Rattle.registers.proofs.Shuffles.{shuffled_after, shuffled_map}
 use Rattle.registers.proofs.Split.{by_supplier, length_part}
 use Rattle.registers.proofs.Verdict.{count_after}

@@ -1,18 +1,18 @@
 -- A supplier's own entries ascend by number, so the first live one without a row is the lowest.
-use Rattle.std.proofs.Common.{◌≡◌, ℕ, ◌<◌, ◌≤◌, Bool, true, false, cond, not, ◌&&◌, eqb, ltb, List, length, get_or, Some, None, Ordering, Less, Equal, Greater, sym, refl, ap, ◌∙◌, subst, arith}
+use Rattle.std.proofs.Common.{◌≡◌, ℕ, ◌<◌, Bool, true, false, cond, not, ◌&&◌, eqb, List, length, get_or, Some, None, Ordering, Less, Equal, Greater, sym, ap, ◌∙◌, subst, arith}
 use Rattle.std.specs.Cmp.{IsTotalOrder}
 use Rattle.std.specs.List.Sorted.{IsStrictlySortedBy}
 use Rattle.std.specs.Option.{option_map}
 use Rattle.std.specs.Ordering.{is_lt, ordering_reverse, ordering_then, nat_cmp}
 use Rattle.std.specs.List.{AllByRecursion as All}
-use Rattle.std.proofs.ByRecursion.{All-from_get_or, All-get_or}
+use Rattle.std.proofs.ByRecursion.{All-get_or}
 use Rattle.std.proofs.lemmas.Bool.{and_from, and_right, eq-eqb, le-ltb}
 use Rattle.kinds.specs.Meaning.{Meaning, Order}
 use Rattle.files.proofs.Judged.{one_order, total_of}
 use Rattle.registers.specs.declared.entry.Entry.{Entry}
 use Rattle.registers.specs.declared.entry.Id.{Id}
 use Rattle.registers.specs.declared.fault.RegisterFault.TheVariants.{Missing}
-use Rattle.registers.specs.Admission.{has_row, is_missing, lowest, missing_refusal}
+use Rattle.registers.specs.Admission.{has_row, is_missing, missing_refusal}
 use Rattle.registers.specs.Entries.{Ascending, ids, is_live, standing}
 use Rattle.registers.specs.Ids.{by_id, compare_ids, id_cmp}
 use Rattle.registers.proofs.Lookups.{below}

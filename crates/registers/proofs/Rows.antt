@@ -1,8 +1,7 @@
 -- The rows of a file beside the entries, one after another.
-use Rattle.std.proofs.Common.{◌≡◌, ℕ, ◌+◌, ◌<◌, List, Some, None, Option, sym, refl, ap, ◌∙◌, subst}
+use Rattle.std.proofs.Common.{◌≡◌, ℕ, ◌<◌, List, Some, None, Option, sym, ap, ◌∙◌}
 use Rattle.std.specs.Option.{option_map}
 use Rattle.kinds.specs.Meaning.{Meaning}
-use Rattle.files.specs.First.{first}
 use Rattle.files.proofs.Firsts.{first_none, first_some}
 use Rattle.registers.specs.declared.entry.Entry.{Entry}
 use Rattle.registers.specs.declared.entry.Standing.{Standing}

@@ -1,15 +1,14 @@
 -- What a register refuses of a file, and what it holds after it.
-use Rattle.std.specs.Prelude.{◌≡◌, ℕ, zero, suc, ◌+◌, ◌≤◌, Bool, true, false, cond, not, ◌&&◌, ◌||◌, List, [], ◌∷◌, ◌++◌, map, length, Some, None, filter, Option, Result, MatchResult, nat_le}
+use Rattle.std.specs.Prelude.{◌≡◌, ℕ, zero, suc, ◌+◌, ◌≤◌, Bool, false, cond, not, ◌&&◌, ◌||◌, List, [], ◌∷◌, ◌++◌, map, length, Some, None, filter, Option, Result, MatchResult, nat_le}
 use Rattle.std.specs.declared.cmp.Ordering.{Ordering}
 use Rattle.std.specs.List.{range_with_len}
-use Rattle.std.specs.Cmp.{IsTotalOrder}
 use Rattle.std.specs.Option.{option_map}
 use Rattle.std.specs.Ordering.{is_eq, is_lt}
 use Rattle.std.specs.List.Sorted.{IsPermutation}
 use Rattle.fields.specs.declared.flags.KeyFlag.{KeyFlag}
 use Rattle.fields.specs.declared.flags.KeyFlag.TheVariants.{NoAmendment, New, Deletion}
 use Rattle.fields.specs.Flags.{stays}
-use Rattle.kinds.specs.Meaning.{Meaning, Order, compares}
+use Rattle.kinds.specs.Meaning.{Meaning, compares}
 use Rattle.files.specs.First.{first, or_else}
 use Rattle.registers.specs.declared.entry.Entry.{Entry}
 use Rattle.registers.specs.declared.entry.Id.{Id}

@@ -1,4 +1,4 @@
-use Rattle.std.proofs.Common.{◌≡◌, None, fold, sym, ap, ◌∙◌}
+use Rattle.std.proofs.Common.{None, fold, sym, ap, ◌∙◌}
 use Rattle.std.specs.Option.{option_map}
 use Rattle.std.proofs.lemmas.List.{take_all}
 use Rattle.books.specs.Join.{with_series}

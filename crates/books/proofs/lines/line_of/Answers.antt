@@ -1,4 +1,4 @@
-use Rattle.std.proofs.Common.{◌≡◌, ◌<◌, ◌≤◌, length, get_or, Some, sym, ap, ◌∙◌, subst}
+use Rattle.std.proofs.Common.{◌<◌, ◌≤◌, length, get_or, Some, sym, ap, ◌∙◌, subst}
 use Rattle.books.proofs.Placed.{line_at, no_line}
 use Rattle.books.proofs.lines.line_of.Goals as goal
 

@@ -1,4 +1,4 @@
-use Rattle.std.proofs.Common.{◌≡◌, not, ◌&&◌, length, sym, refl, ap, ◌∙◌}
+use Rattle.std.proofs.Common.{not, ◌&&◌, length, sym, refl, ap, ◌∙◌}
 use Rattle.files.specs.Files.{record_at}
 use Rattle.files.proofs.Judged.{total_of}
 use Rattle.registers.specs.Admission.{has_row}

@@ -1,4 +1,4 @@
-use Rattle.std.proofs.Common.{sym, ap, ◌∙◌, arith}
+use Rattle.std.proofs.Common.{ap, ◌∙◌, arith}
 use Rattle.files.specs.Files.{record_at}
 use Rattle.files.specs.Rows.{row_in}
 use Rattle.registers.specs.Admission.{row_entry}

@@ -1,14 +1,12 @@
-use Rattle.std.proofs.Common.{◌≡◌, ◌+◌, ◌-◌, ◌≤◌, ◌++◌, map, length, filter, sym, refl, ap, ◌∙◌, subst, arith}
+use Rattle.std.proofs.Common.{◌≡◌, ◌+◌, ◌-◌, ◌≤◌, ◌++◌, map, length, filter, ap, ◌∙◌, subst, arith}
 use borrow.Rule.Slice.PartMut.{put_mid}
-use Rattle.std.specs.Ordering.{is_lt}
-use Rattle.std.specs.List.Sorted.{IsSortedWithin, IsPermutation}
+use Rattle.std.specs.List.Sorted.{IsPermutation}
 use Rattle.std.proofs.lemmas.List.Sorted.{length_permutation, IsPermutation-trans}
 use Rattle.std.proofs.lemmas.List.Sums.{count_by-le-length}
 use Rattle.files.specs.Files.{record_at}
 use Rattle.files.specs.Rows.{row_in}
 use Rattle.registers.specs.Admission.{row_entry}
 use Rattle.registers.specs.Entries.{stays_blocked}
-use Rattle.registers.specs.Ids.{id_cmp}
 use Rattle.registers.specs.Own.{part}
 use Rattle.registers.proofs.Memory.{offset_fits}
 use Rattle.registers.proofs.Replacing.{all_is, front_is, length_put, part_is}

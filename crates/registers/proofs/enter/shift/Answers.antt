@@ -1,4 +1,4 @@
-use Rattle.std.proofs.Common.{◌≡◌, ◌+◌, ◌-◌, take, drop, refl, ap, ◌∙◌, arith}
+use Rattle.std.proofs.Common.{◌≡◌, ◌+◌, ◌-◌, take, drop, refl, arith}
 use Rattle.registers.proofs.Shifts.{back, back_front, forth, forth_front}
 use Rattle.registers.proofs.enter.shift.Goals as goal
 

@@ -1,4 +1,4 @@
-use Rattle.std.proofs.Common.{sym, ◌∙◌}
+use Rattle.std.proofs.Common.{sym}
 use Rattle.std.proofs.lemmas.List.Sorted.{searchable_from_sorted}
 use Rattle.registers.specs.Ids.{by_id}
 use Rattle.registers.proofs.Lookups.{ascends, standing_at, standing_missed}

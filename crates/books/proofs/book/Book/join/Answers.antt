@@ -1,7 +1,5 @@
-use Rattle.std.proofs.Common.{◌≡◌, take, None, fold, sym, ap, ◌∙◌}
+use Rattle.std.proofs.Common.{take, None, fold, sym, ap, ◌∙◌}
 use Rattle.std.specs.Option.{option_map}
-use Rattle.kinds.specs.Series.{series_meaning}
-use Rattle.registers.specs.Ids.{compare_ids}
 use Rattle.books.specs.Join.{joined, with_series}
 use Rattle.books.proofs.Nearest.{folded_own, nearest_is}
 use Rattle.books.proofs.book.Book.join.Goals as goal

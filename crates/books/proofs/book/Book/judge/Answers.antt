@@ -1,13 +1,10 @@
-use Rattle.std.proofs.Common.{◌≡◌, ◌≤◌, length, take, sym, refl, ap, ◌∙◌, arith}
+use Rattle.std.proofs.Common.{◌≡◌, ◌≤◌, length, take, ap, ◌∙◌, arith}
 use Rattle.kinds.specs.FareTable.{fare_table_meaning}
-use Rattle.kinds.specs.Meaning.{Meaning}
 use Rattle.std.specs.Ordering.{nat_cmp}
 use Rattle.kinds.specs.Series.{series_meaning}
 use Rattle.kinds.specs.Station.{station_meaning}
 use Rattle.deliveries.proofs.Heads.{whole}
 use Rattle.deliveries.proofs.Parts.{counts}
-use Rattle.registers.specs.Entries.{ids}
-use Rattle.registers.specs.Ids.{compare_ids}
 use Rattle.books.specs.Admission.{book_fault, first_of}
 use Rattle.books.specs.Lines.{line_fault}
 use Rattle.books.proofs.Judging.{all_taken, file_indexed, file_judged, line_is}

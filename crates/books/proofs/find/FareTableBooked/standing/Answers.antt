@@ -1,5 +1,3 @@
-use Rattle.kinds.specs.FareTable.{fare_table_meaning}
-use Rattle.registers.specs.Ids.{compare_ids}
 use Rattle.books.proofs.find.FareTableBooked.standing.Goals as goal
 
 pub returns : goal.returns

@@ -1,5 +1,3 @@
-use Rattle.kinds.specs.Station.{station_meaning}
-use Rattle.registers.specs.Ids.{compare_ids}
 use Rattle.books.proofs.find.StationBooked.standing.Goals as goal
 
 pub returns : goal.returns

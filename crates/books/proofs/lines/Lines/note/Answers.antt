@@ -1,4 +1,4 @@
-use Rattle.std.proofs.Common.{◌≡◌, ◌<◌, ◌≤◌, length, take, set, refl, ap, ◌∙◌, arith}
+use Rattle.std.proofs.Common.{◌<◌, ◌≤◌, length, take, set, refl, ap, ◌∙◌, arith}
 use Rattle.books.specs.Lines.{line_after}
 use Rattle.books.proofs.Placed.{at_below, at_bound, at_is, noted_is, receipt_left}
 use Rattle.books.proofs.lines.Lines.note.Goals as goal
