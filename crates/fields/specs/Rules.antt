@@ -1,6 +1,6 @@
 -- What a field may hold, and the first field of a row at fault.
 use Rattle.std.specs.Prelude.{◌≡◌, ℕ, ◌+◌, ◌-◌, Bool, true, false, not, ◌&&◌, ◌||◌, List, [], ◌∷◌, ◌++◌, length, is_some, Some, None, Ok, Err, Option, Result, ◌==◌, nat_le, slice_index_or}
-use Rattle.std.specs.List.{AllByRecursion as All}
+use Rattle.std.specs.List.{AllByRecursion}
 use Rattle.std.specs.Str.{bytes_eq}
 use Rattle.fields.specs.declared.class.Class.TheVariants.{Digit, Letter, Plain, Printable, Only}
 use Rattle.fields.specs.declared.fault.FieldFault.{FieldFault}
@@ -104,4 +104,4 @@ checked c row (f ∷ fs) = unless (fault c row f) (checked c row fs)
 
 -- every field keeps its rule
 abbrev pub Sound : Context → List ℕ → List Field → Type 0
-Sound c row fs = All (Keeps c row) fs
+Sound c row fs = AllByRecursion (Keeps c row) fs

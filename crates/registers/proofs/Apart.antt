@@ -3,7 +3,7 @@ use Rattle.std.proofs.Common.{◌≡◌, ℕ, zero, suc, ◌+◌, ◌<◌, ◌�
 use Rattle.std.specs.Cmp.{IsTotalOrder, alike_right, tied_back}
 use Rattle.std.specs.Ordering.{is_eq, is_lt, ordering_reverse}
 use Rattle.std.specs.List.Sorted.{IsSortedWithin, IsPermutation, IsStrictlySortedBy}
-use Rattle.std.specs.List.{AllByRecursion as All}
+use Rattle.std.specs.List.{AllByRecursion}
 use Rattle.std.proofs.lemmas.Map.Keys.{sorted_from_all_adjacent}
 use Rattle.std.proofs.lemmas.List.{get_or-map, length-map}
 use Rattle.std.proofs.lemmas.List.Sorted.{sum_by-IsPermutation}
@@ -42,7 +42,7 @@ count_some p (x ∷ xs) h = go (p x) refl (count_some p xs) (omega (arith, h, co
     go true e ih h = (0, omega arith, λ d. e)
     go false e ih h = let r = ih (omega (arith, h)) in (suc r.0, omega (arith, r.1), r.2)
 
-pub count_none : {X : Type 0} (p : X → Bool) (xs : List X) → All (λ x. p x ≡ false) xs → count_by p xs ≡ 0
+pub count_none : {X : Type 0} (p : X → Bool) (xs : List X) → AllByRecursion (λ x. p x ≡ false) xs → count_by p xs ≡ 0
 count_none p [] h = refl
 count_none p (x ∷ xs) h = omega (arith, ap one h.0, count_cons p x xs, count_none p xs h.1)
 
@@ -64,7 +64,7 @@ module _ {N T : Type 0} {P : Id N → Id N → Ordering} (o : IsTotalOrder P) wh
   apart_ascending (e ∷ es) up i =
       omega (arith, count_cons (has_id i) e es, go (has_id i e) refl (apart_ascending es (sorted_tail o e.id (ids es) up) i))
     where
-      others : has_id i e ≡ true → (es : List (Entry N T)) → All (λ y. P e.id y ≡ Less) (ids es) → All (λ x. has_id i x ≡ false) es
+      others : has_id i e ≡ true → (es : List (Entry N T)) → AllByRecursion (λ y. P e.id y ≡ Less) (ids es) → AllByRecursion (λ x. has_id i x ≡ false) es
       others t [] h = tt
       others t (x ∷ es) h = (off x h.0 t, others t es h.1)
         where

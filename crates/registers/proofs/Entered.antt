@@ -1,6 +1,6 @@
 -- The entries after a file are a shuffle of those that the rules define, and ascend again.
 use Rattle.std.proofs.Common.{◌≡◌, ℕ, zero, suc, ◌+◌, ◌-◌, ◌<◌, ◌≤◌, Bool, true, false, cond, not, ◌&&◌, eqb, List, [], ◌∷◌, ◌++◌, map, length, get_or, take, drop, Some, None, count_by, filter, Less, Equal, Greater, sym, refl, ap, ◌∙◌, subst, arith}
-use Rattle.std.specs.List.{range_with_len, AllByRecursion as All}
+use Rattle.std.specs.List.{range_with_len, AllByRecursion}
 use Rattle.std.specs.Cmp.{alike_right, tied_back}
 use Rattle.std.specs.Ordering.{is_lt, ordering_then}
 use Rattle.std.specs.List.Sorted.{IsSortedWithin, IsPermutation, IsStrictlySortedBy}
@@ -100,28 +100,28 @@ module _ {R T N K : Type 0} (m : Meaning R T N K) (s : ℕ) (r : ℕ → R) (yea
     fresh_apart : Apart (id_order m.numbers) (blocked ++ rows)
     fresh_apart = apart_append (id_order m.numbers) blocked rows blocked_apart (rows_apart n single) cross
 
-    blocked_own : All (λ e. e.id.supplier ≡ s) blocked
+    blocked_own : AllByRecursion (λ e. e.id.supplier ≡ s) blocked
     blocked_own = all_kept_by (stays_blocked year) (λ e. e.id.supplier ≡ s) (part start end es) (part_own es s start end first last own)
 
-    rows_own : All (λ e. e.id.supplier ≡ s) rows
+    rows_own : AllByRecursion (λ e. e.id.supplier ≡ s) rows
     rows_own = All-map (λ e. e.id.supplier ≡ s) (row_entry m s r year) (range_with_len 0 n) (every (range_with_len 0 n))
       where
-        every : (ks : List ℕ) → All (λ k. (row_entry m s r year k).id.supplier ≡ s) ks
+        every : (ks : List ℕ) → AllByRecursion (λ k. (row_entry m s r year k).id.supplier ≡ s) ks
         every [] = tt
         every (k ∷ ks) = (refl, every ks)
 
     module _ (new : List (Entry N T)) (same : IsPermutation (blocked ++ rows) new) (rises : IsSortedWithin (λ x y. is_lt (compare_ids m.numbers x.id y.id)) new 0 (length new)) where
-      new_own : All (λ e. e.id.supplier ≡ s) new
+      new_own : AllByRecursion (λ e. e.id.supplier ≡ s) new
       new_own = all_shuffled (λ e. e.id.supplier ≡ s) (blocked ++ rows) new same (All-append (λ e. e.id.supplier ≡ s) blocked rows blocked_own rows_own)
 
       new_ascends : IsStrictlySortedBy (compare_ids m.numbers) (ids new)
       new_ascends = strict (id_order m.numbers) new (apart_shuffled (id_order m.numbers) (blocked ++ rows) new same fresh_apart) rises
 
       -- entries of lower suppliers come before those of higher ones
-      pass : (c : ℕ) (xs ys : List (Entry N T)) → All (λ e. e.id.supplier < c) xs → All (λ e. c ≤ e.id.supplier) ys →
-          All (λ x. All (λ y. compare_ids m.numbers x y ≡ Less) (ids ys)) (ids xs)
-      pass c xs ys p q = All-map (λ x. All (λ y. compare_ids m.numbers x y ≡ Less) (ids ys)) (λ e. e.id) xs
-          (All-weaker (λ e. e.id.supplier < c) (λ e. All (λ y. compare_ids m.numbers e.id y ≡ Less) (ids ys))
+      pass : (c : ℕ) (xs ys : List (Entry N T)) → AllByRecursion (λ e. e.id.supplier < c) xs → AllByRecursion (λ e. c ≤ e.id.supplier) ys →
+          AllByRecursion (λ x. AllByRecursion (λ y. compare_ids m.numbers x y ≡ Less) (ids ys)) (ids xs)
+      pass c xs ys p q = All-map (λ x. AllByRecursion (λ y. compare_ids m.numbers x y ≡ Less) (ids ys)) (λ e. e.id) xs
+          (All-weaker (λ e. e.id.supplier < c) (λ e. AllByRecursion (λ y. compare_ids m.numbers e.id y ≡ Less) (ids ys))
           (λ x h. All-map (λ y. compare_ids m.numbers x.id y ≡ Less) (λ e. e.id) ys
           (All-weaker (λ e. c ≤ e.id.supplier) (λ e. compare_ids m.numbers x.id e.id ≡ Less) (λ y k. lower_first m.numbers x.id y.id (omega arith)) ys q)) xs p)
 
@@ -131,13 +131,13 @@ module _ {R T N K : Type 0} (m : Meaning R T N K) (s : ℕ) (r : ℕ → R) (yea
       abbrev higher : List (Entry N T)
       higher = drop end es
 
-      lower_below : All (λ e. e.id.supplier < s) lower
+      lower_below : AllByRecursion (λ e. e.id.supplier < s) lower
       lower_below = all_places (λ e. e.id.supplier < s) lower
           (λ k d l.
           let below : k < start = omega (arith, length-take start es) in
           subst (λ e. e.id.supplier < s) (sym (get_or-take start es k d below)) (own.before k d (omega arith) below))
 
-      higher_above : All (λ e. s + 1 ≤ e.id.supplier) higher
+      higher_above : AllByRecursion (λ e. s + 1 ≤ e.id.supplier) higher
       higher_above = all_places (λ e. s + 1 ≤ e.id.supplier) higher
           (λ k d l.
           let h = own.after (end + k) d (omega arith) (omega (arith, length-drop end es)) in
@@ -147,12 +147,12 @@ module _ {R T N K : Type 0} (m : Meaning R T N K) (s : ℕ) (r : ℕ → R) (yea
       ascending =
           let a : IsStrictlySortedBy (compare_ids m.numbers) (ids lower) = subst (IsStrictlySortedBy (compare_ids m.numbers)) (take-map (λ e. e.id) start es) (sorted_take (compare_ids m.numbers) start (ids es) up) in
           let b : IsStrictlySortedBy (compare_ids m.numbers) (ids higher) = subst (IsStrictlySortedBy (compare_ids m.numbers)) (drop-map (λ e. e.id) end es) (sorted_drop (compare_ids m.numbers) end (ids es) up) in
-          let beyond : All (λ e. s + 1 ≤ e.id.supplier) higher = higher_above in
-          let from-s : All (λ e. s ≤ e.id.supplier) (new ++ higher) =
+          let beyond : AllByRecursion (λ e. s + 1 ≤ e.id.supplier) higher = higher_above in
+          let from-s : AllByRecursion (λ e. s ≤ e.id.supplier) (new ++ higher) =
           All-append (λ e. s ≤ e.id.supplier) new higher
           (All-weaker (λ e. e.id.supplier ≡ s) (λ e. s ≤ e.id.supplier) (λ e h. omega arith) new new_own)
           (All-weaker (λ e. s + 1 ≤ e.id.supplier) (λ e. s ≤ e.id.supplier) (λ e h. omega arith) higher higher_above) in
-          let up-to-s : All (λ e. e.id.supplier < s + 1) new = All-weaker (λ e. e.id.supplier ≡ s) (λ e. e.id.supplier < s + 1) (λ e h. omega arith) new new_own in
+          let up-to-s : AllByRecursion (λ e. e.id.supplier < s + 1) new = All-weaker (λ e. e.id.supplier ≡ s) (λ e. e.id.supplier < s + 1) (λ e h. omega arith) new new_own in
           let back : IsStrictlySortedBy (compare_ids m.numbers) (ids (new ++ higher)) =
           subst (IsStrictlySortedBy (compare_ids m.numbers)) (sym (map-append (λ e. e.id) new higher))
           (sorted_append (compare_ids m.numbers) (ids new) (ids higher) new_ascends b (pass (s + 1) new higher up-to-s higher_above)) in

@@ -2,7 +2,7 @@
 use Rattle.std.proofs.Common.{◌≡◌, ℕ, zero, suc, ◌+◌, ◌<◌, false, cond, List, [], ◌∷◌, length, get_or, Some, None, Ordering, Less, Equal, Greater, sym, refl, ap, ◌∙◌, ⊎_elim, arith}
 use Rattle.std.specs.Cmp.{IsTotalOrder, alike_right}
 use Rattle.std.specs.Ordering.{is_eq, is_lt, ordering_reverse}
-use Rattle.std.specs.List.{AllByRecursion as All}
+use Rattle.std.specs.List.{AllByRecursion}
 use Rattle.std.specs.List.Sorted.{IsPartitionPoint, IsSortedWithin, IsStrictlySortedBy}
 use Rattle.std.proofs.lemmas.Map.Keys.{Less-from_sorted}
 use Rattle.std.proofs.lemmas.List.{get_or-map, length-map}
@@ -12,7 +12,7 @@ use Rattle.registers.specs.declared.entry.Id.{Id}
 use Rattle.registers.specs.Entries.{ids, standing}
 
 module _ {N : Type 0} {P : Id N → Id N → Ordering} (o : IsTotalOrder P) where
-  pub sorted_head : (x : Id N) (xs : List (Id N)) → IsStrictlySortedBy P (x ∷ xs) → All (λ y. P x y ≡ Less) xs
+  pub sorted_head : (x : Id N) (xs : List (Id N)) → IsStrictlySortedBy P (x ∷ xs) → AllByRecursion (λ y. P x y ≡ Less) xs
   unfolding IsStrictlySortedBy
   sorted_head x xs s = s.0
 

@@ -4,7 +4,7 @@ use Rattle.std.specs.Cmp.{IsTotalOrder}
 use Rattle.std.specs.List.Sorted.{IsStrictlySortedBy}
 use Rattle.std.specs.Option.{option_map}
 use Rattle.std.specs.Ordering.{is_lt, ordering_reverse, ordering_then, nat_cmp}
-use Rattle.std.specs.List.{AllByRecursion as All}
+use Rattle.std.specs.List.{AllByRecursion}
 use Rattle.std.proofs.ByRecursion.{All-get_or}
 use Rattle.std.proofs.lemmas.Bool.{and_from, and_right, eq-eqb, le-ltb}
 use Rattle.kinds.specs.Meaning.{Meaning, Order}
@@ -37,7 +37,7 @@ rank_same a b e = λ i. cond (le-ltb a b (omega arith) i) Less (cond (eq-eqb a b
 pub compare_own : {N : Type 0} (o : Order N) (x y : Id N) → x.supplier ≡ y.supplier → compare_ids o x y ≡ o.cmp x.number y.number
 compare_own o x y e = ap (λ r. ordering_then r (o.cmp x.number y.number)) (rank_same x.supplier y.supplier e)
 
-pub own_order : {N T : Type 0} (o : Order N) (es : List (Entry N T)) (s : ℕ) → Ascending o es → All (λ e. e.id.supplier ≡ s) es →
+pub own_order : {N T : Type 0} (o : Order N) (es : List (Entry N T)) (s : ℕ) → Ascending o es → AllByRecursion (λ e. e.id.supplier ≡ s) es →
     (i k : ℕ) (d : Entry N T) → i < k → k < length es → o.cmp (get_or es i d).id.number (get_or es k d).id.number ≡ Less
 own_order o es s up own i k d l h =
     let a = All-get_or (λ e. e.id.supplier ≡ s) es i d (omega arith) own in
@@ -48,7 +48,7 @@ module _ {R T N K : Type 0} (m : Meaning R T N K) (s : ℕ) (r : ℕ → R) (n :
   pub not_missing : (e : Entry N T) (b : Bool) → b ≡ (is_live e.standing && not (has_row m s r n e.id.number)) → b ≡ false → is_missing m s r n e ≡ false
   not_missing e b p q = and_right (eqb e.id.supplier s) _ (sym p ∙ q)
 
-  pub missing_first : (es : List (Entry N T)) → Ascending m.numbers es → All (λ e. e.id.supplier ≡ s) es →
+  pub missing_first : (es : List (Entry N T)) → Ascending m.numbers es → AllByRecursion (λ e. e.id.supplier ≡ s) es →
       (i told : ℕ) (x : Entry N T) (b : Bool) → i < length es → x ≡ get_or es i x → b ≡ (is_live x.standing && not (has_row m s r n x.id.number)) → b ≡ true →
       ((k : ℕ) (d : Entry N T) → k < i → is_missing m s r n (get_or es k d) ≡ false) → told ≡ m.record_number x.id.number →
       Some (Missing told) ≡ missing_refusal m s r es n
@@ -60,5 +60,5 @@ module _ {R T N K : Type 0} (m : Meaning R T N K) (s : ℕ) (r : ℕ → R) (n :
       ap (λ w. Some (Missing w)) (t ∙ ap (λ e. m.record_number e.id.number) is)
       ∙ ap (option_map (λ w. Missing (m.record_number w))) (sym low)
 
-  pub missing_none : (es : List (Entry N T)) → All (λ e. is_missing m s r n e ≡ false) es → None ≡ missing_refusal m s r es n
+  pub missing_none : (es : List (Entry N T)) → AllByRecursion (λ e. is_missing m s r n e ≡ false) es → None ≡ missing_refusal m s r es n
   missing_none es h = ap (option_map (λ w. Missing (m.record_number w))) (sym (lowest_none m.numbers.cmp (is_missing m s r n) es h))

@@ -3,7 +3,7 @@ use Rattle.std.proofs.Common.{◌≡◌, ℕ, ◌+◌, ◌-◌, ◌<◌, ◌≤�
 use Rattle.std.specs.Cmp.{ranks}
 use Rattle.std.specs.Ordering.{MatchOrdering, is_gt, ordering_then, nat_cmp}
 use Rattle.std.specs.List.Sorted.{IsStrictlySortedBy}
-use Rattle.std.specs.List.{AllByRecursion as All}
+use Rattle.std.specs.List.{AllByRecursion}
 use Rattle.std.proofs.lemmas.List.Elements.{filter-append}
 use Rattle.std.proofs.ByRecursion.{All-weaker}
 use Rattle.std.proofs.lemmas.List.{append-nil, drop-drop, drop-map, get_or-drop, get_or-take, length-drop, length-take, take-append-drop, take-map}
@@ -47,24 +47,24 @@ module _ {N T : Type 0} (es : List (Entry N T)) (s start end : ℕ) (first : sta
   pub length_part : length (part start end es) ≡ end - start
   length_part = length-take (end - start) (drop start es) ∙ omega (arith, length-drop start es)
 
-  pub part_own : All (λ e. e.id.supplier ≡ s) (part start end es)
+  pub part_own : AllByRecursion (λ e. e.id.supplier ≡ s) (part start end es)
   part_own = all_places (λ e. e.id.supplier ≡ s) (part start end es)
       (λ k d l. ap (λ e. e.id.supplier) (get_or-take (end - start) (drop start es) k d (omega (arith, length_part)) ∙ get_or-drop start es k d)
       ∙ own.own (start + k) d (omega arith) (omega (arith, length_part)))
 
-  pub before_others : All (λ e. is_own s e ≡ false) (take start es)
+  pub before_others : AllByRecursion (λ e. is_own s e ≡ false) (take start es)
   before_others = all_places (λ e. is_own s e ≡ false) (take start es)
       (λ k d l.
       let below : k < start = omega (arith, length-take start es) in
       ne_eqb (get_or (take start es) k d).id.supplier s
       (λ e. omega (arith, own.before k d (omega arith) below, sym (ap (λ e. e.id.supplier) (get_or-take start es k d below)) ∙ e)))
 
-  pub after_others : All (λ e. is_own s e ≡ false) (drop end es)
+  pub after_others : AllByRecursion (λ e. is_own s e ≡ false) (drop end es)
   after_others = all_places (λ e. is_own s e ≡ false) (drop end es)
       (λ k d l. ne_eqb (get_or (drop end es) k d).id.supplier s
       (λ e. omega (arith, own.after (end + k) d (omega arith) (omega (arith, length-drop end es)), sym (ap (λ e. e.id.supplier) (get_or-drop end es k d)) ∙ e)))
 
-  pub all_own : All (λ e. is_own s e ≡ true) (part start end es)
+  pub all_own : AllByRecursion (λ e. is_own s e ≡ true) (part start end es)
   all_own = All-weaker (λ e. e.id.supplier ≡ s) (λ e. is_own s e ≡ true) (λ e h. eq-eqb e.id.supplier s h) (part start end es) part_own
 
   -- what is kept of all entries

@@ -6,7 +6,7 @@ ghost use Rattle.registers.specs.Admission.{Judged, Passes, beside, has_row, mis
 ghost use Rattle.registers.specs.Entries.{Ascending, is_live};
 ghost use Rattle.registers.specs.Indexes.{Index};
 ghost use Rattle.std.specs.Result.{result_err};
-ghost use Rattle.std.specs.List.{AllByRecursion as All};
+ghost use Rattle.std.specs.List.{AllByRecursion};
 
 use crate::entry::{Entry, Id, Standing, is_blocked};
 use crate::fault::{EntryFault, RegisterFault};
@@ -115,7 +115,7 @@ fn check_missing<K: Kind>(
     own: &[Entry<K::Number, K::Told>],
     places: &[Place<K::Number>],
 ) -> Result<(), RegisterFault>
-    ensures { (s : ℕ) (row : ℕ → List ℕ) → Index K.Kind.meaning s row K.Number.Ord.cmp places.now → Ascending K.Kind.meaning.numbers own.now → All (λ e. e.id.supplier ≡ s) own.now → result_err result ≡ missing_refusal K.Kind.meaning s (record_at K.Kind.meaning s row) own.now (length places.now) }
+    ensures { (s : ℕ) (row : ℕ → List ℕ) → Index K.Kind.meaning s row K.Number.Ord.cmp places.now → Ascending K.Kind.meaning.numbers own.now → AllByRecursion (λ e. e.id.supplier ≡ s) own.now → result_err result ≡ missing_refusal K.Kind.meaning s (record_at K.Kind.meaning s row) own.now (length places.now) }
 {
     for entry in own {
         if lacks_row::<K>(entry, places) {

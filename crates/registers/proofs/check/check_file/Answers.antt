@@ -1,5 +1,5 @@
 use Rattle.std.proofs.Common.{◌≡◌, ◌-◌, length, take, sym, refl, ap, ◌∙◌, subst, arith}
-use Rattle.std.specs.List.{AllByRecursion as All}
+use Rattle.std.specs.List.{AllByRecursion}
 use Rattle.std.proofs.lemmas.List.{length-take}
 use Rattle.std.proofs.lemmas.Result.{err_from_is_err_and}
 use Rattle.std.proofs.lemmas.Bool.{false≢true}
@@ -59,7 +59,7 @@ returns-in_err-check_missing g c =
       first = λ up.
           let own = stay.own (by_supplier m.numbers es up) in
           let missing = c.in_err-check_missing.ensures s (row_in rows) index
-          (subst (Ascending m.numbers) mine (ascending_part m.numbers es start end up)) (subst (All (λ e. e.id.supplier ≡ s)) mine (part_own es s start end stay.first stay.last own)) in
+          (subst (Ascending m.numbers) mine (ascending_part m.numbers es start end up)) (subst (AllByRecursion (λ e. e.id.supplier ≡ s)) mine (part_own es s start end stay.first stay.last own)) in
           let none = c.in_ok-check_rows.ensures.first (subst (λ k. Ascending m.numbers (take k whole)) (sym all) up) ∙ ap (λ k. rows_refusal m s r (take k whole) c.args.year n) all in
           fault_is m s r es c.args.year n start end stay.first stay.last own _ none (missing ∙ (λ i. missing_refusal m s r (sym mine i) (long i)));
       few = tt;
@@ -90,7 +90,7 @@ returns g c =
       first = λ up.
           let own = stay.own (by_supplier m.numbers es up) in
           let missing = c.in_ok-check_missing.ensures s (row_in rows) index
-          (subst (Ascending m.numbers) mine (ascending_part m.numbers es start end up)) (subst (All (λ e. e.id.supplier ≡ s)) mine (part_own es s start end stay.first stay.last own)) in
+          (subst (Ascending m.numbers) mine (ascending_part m.numbers es start end up)) (subst (AllByRecursion (λ e. e.id.supplier ≡ s)) mine (part_own es s start end stay.first stay.last own)) in
           let none = c.in_ok-check_rows.ensures.first (subst (λ k. Ascending m.numbers (take k whole)) (sym all) up) ∙ ap (λ k. rows_refusal m s r (take k whole) c.args.year n) all in
           passes m s r es c.args.year n start end stay.first stay.last own _ none (missing ∙ (λ i. missing_refusal m s r (sym mine i) (long i))) stay.count;
       few = omega (arith, stay.few, length-take used whole);
