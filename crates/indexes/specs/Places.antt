@@ -1,6 +1,6 @@
 -- Places in the order of their numbers, the rows of a number, and the rows whose number an earlier row has.
 --
--- Numbers are compared by o, their total order: two are the same where it answers `Equal`.
+-- Numbers are compared by R, a total order as o says: two are the same where it answers `Equal`.
 use Rattle.std.specs.Prelude.{◌≡◌, ℕ, ◌<◌, ◌≤◌, List, length, Option, MatchOption}
 use Rattle.std.specs.declared.cmp.Ordering.TheVariants.{Equal}
 use Rattle.std.specs.declared.cmp.Ordering.{Ordering}
