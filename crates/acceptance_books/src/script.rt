@@ -105,9 +105,10 @@ fn try_find(
     rt: &impl Abort,
     heap: Global,
     book: &Book<'_>,
-    question: &[u8],
+    asked: &str,
     expected: &str,
 ) -> Result<(), Fail> {
+    let question = asked.as_bytes();
     let supplier = number_in(question, 8, 11);
     let numbers = Numbers::read(part(question, 13, 27));
     for k in 0..numbers.count {
@@ -123,7 +124,7 @@ fn try_find(
         let answer = find(heap, book, part(question, 6, 6), (supplier, number))?;
         assert!(rt;
             answer.as_bytes() == expected.as_slice(),
-            "{}",
+            "{asked}: {}",
             answer.as_str()
         );
     }
@@ -153,10 +154,10 @@ fn try_line(rt: &impl Abort, heap: Global, book: &mut Book<'_>, line: &str) -> R
         return Err(Fail::new(format_args!("a line expects nothing: {line}")));
     };
     match asked.as_bytes() {
-        [b'f', ..] => try_find(rt, heap, book, asked.as_bytes(), expected),
+        [b'f', ..] => try_find(rt, heap, book, asked, expected),
         _ => {
             let answer = answer(heap, book, asked, expected.ends_with(')'))?;
-            assert_eq!(rt; answer.as_str(), expected);
+            assert_eq!(rt; answer.as_str(), expected, "{line}");
             Ok(())
         }
     }
