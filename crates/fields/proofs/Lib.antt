@@ -1,3 +1,4 @@
 pub mod Days
 pub mod FirstFault
 pub mod Values
+pub mod Trims

@@ -21,6 +21,10 @@ layer_name Entry = codes "entry"
 layer_name Run = codes "run"
 layer_name Copy = codes "copy"
 
+-- a fault of which its number and layer are told, and nothing else
+abbrev pub untold_parts : ℕ → Layer → Parts
+untold_parts n l = record { number = n; layer = l; letter = untold; row = 0; field = 0; «record» = 0 }
+
 -- the six parts as a fault prints them
 abbrev pub line : Parts → List ℕ
 line p =

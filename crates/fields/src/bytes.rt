@@ -23,12 +23,7 @@ impl Class {
     pub fn spans(self, bytes: &[u8]) -> bool
         ensures { result ≡ every self bytes.now }
     {
-        for byte in bytes {
-            if !self.contains(*byte) {
-                return false;
-            }
-        }
-        true
+        bytes.iter().all(|byte| self.contains(*byte))
     }
 }
 
@@ -47,13 +42,10 @@ pub fn number(bytes: &[u8]) -> u64
     ensures capped { result ≡ min (value bytes.now) 18446744073709551615 }
     ensures short { length bytes.now ≤ 8 → (result ≡ value bytes.now) × (result < 2 ^ 32) }
 {
-    let mut sum: u64 = 0;
-    for byte in bytes {
-        sum = sum
-            .saturating_mul(10)
-            .saturating_add(u64::from(byte.saturating_sub(b'0')));
-    }
-    sum
+    bytes.iter().fold(0, |sum: u64, byte| {
+        sum.saturating_mul(10)
+            .saturating_add(u64::from(byte.saturating_sub(b'0')))
+    })
 }
 
 // The number in the columns `first` to `last` of a row, up to the largest number a u32 holds.

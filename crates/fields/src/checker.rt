@@ -2,7 +2,6 @@
 ghost use Rattle.fields.specs.Bytes.{padded};
 ghost use Rattle.fields.specs.Rules.{Sound, allowed, checked, equal, fault, file_name, left_blank, of_type, typed_as, unless};
 ghost use Rattle.std.specs.Prelude.{◌≡◌, is_ok, Ok, Decides, ◌==◌, slice_index_or};
-ghost use Rattle.std.specs.Str.{bytes_eq};
 
 use crate::bytes::{BLANK, number, part};
 use crate::class::Class;
@@ -63,12 +62,6 @@ impl Context {
     }
 }
 
-fn are_same(one: &[u8], other: &[u8]) -> bool
-    ensures { result ≡ bytes_eq one.now other.now }
-{
-    one == other
-}
-
 impl Content {
     fn allows(self, context: &Context, bytes: &[u8]) -> bool
         ensures { result ≡ allowed context.now self bytes.now }
@@ -101,7 +94,7 @@ impl Content {
     {
         match self {
             Content::Supplier => number(bytes) == u64::from(context.supplier),
-            Content::FileName => are_same(bytes, &context.file_name()),
+            Content::FileName => bytes == context.file_name().as_slice(),
             _ => true,
         }
     }
@@ -138,6 +131,7 @@ pub fn check(table: &[Field], context: &Context, row: &[u8]) -> Result<(), Field
     ensures first { result ≡ checked context.now row.now table.now }
     ensures sound { Decides (is_ok result) (Sound context.now row.now table.now) }
 {
+    // A `for` with `?` is as short as `try_for_each` with a closure, and shows that the first fault is given.
     for field in table {
         field.check(context, row)?;
     }

@@ -26,12 +26,8 @@ impl FieldFault {
             FieldFault::NotEqual(field) => (6, field),
         };
         Parts {
-            number,
-            layer: Layer::Field,
-            letter: '-',
-            row: 0,
             field,
-            record: 0,
+            ..Parts::of(number, Layer::Field)
         }
     }
 
@@ -57,10 +53,9 @@ impl FieldFault {
     }
 }
 
+// One line for each kind of fault: a function or a trait that they shared would be called by a line as long.
 impl fmt::Display for FieldFault {
     fn fmt<W: fmt::Write>(&self, f: &mut fmt::Formatter<W>) -> fmt::Result {
-        let parts = self.parts();
-        let advice = self.advice();
-        write!(f, "{parts} ({advice})")
+        write!(f, "{} ({})", self.parts(), self.advice())
     }
 }

@@ -1,5 +1,5 @@
 // The six parts that every fault tells.
-ghost use Rattle.fields.specs.Faults.{layer_name, line};
+ghost use Rattle.fields.specs.Faults.{layer_name, line, untold_parts};
 ghost use Rattle.std.specs.Prelude.{◌≡◌, Some};
 
 use std::fmt;
@@ -41,6 +41,22 @@ impl Layer {
             Layer::Entry => "entry",
             Layer::Run => "run",
             Layer::Copy => "copy",
+        }
+    }
+}
+
+impl Parts {
+    // A fault of which nothing else is told.
+    pub fn of(number: u8, layer: Layer) -> Parts
+        ensures { result ≡ untold_parts number layer }
+    {
+        Parts {
+            number,
+            layer,
+            letter: '-',
+            row: 0,
+            field: 0,
+            record: 0,
         }
     }
 }

@@ -1,17 +1,12 @@
 // Text of a fixed number of columns, byte for byte as the row has it.
 ghost use Rattle.fields.specs.Bytes.{text, trimmed};
-ghost use Rattle.std.proofs.Common.{rules};
-ghost use Rattle.std.specs.Cmp.Lexicographic.{lists_agrees, lists_po, pointwise, slice_cmp, slice_partial_cmp};
-ghost use Rattle.std.specs.Cmp.Rules.{comparing};
-ghost use Rattle.std.specs.Cmp.{unsigned_po, on_po, partial_equiv_from_equiv};
-ghost use Rattle.std.specs.Ordering.{as_partial_cmp, nat_cmp, on};
-ghost use Rattle.std.specs.Prelude.{◌≡◌, ◌==◌, refl};
+ghost use Rattle.std.specs.Prelude.{◌≡◌};
 
 use crate::bytes::BLANK;
-use std::cmp::Ordering;
 use std::fmt;
 
-#[derive(Clone, Copy)]
+// Compared byte by byte.
+#[derive(Clone, Copy, PartialEq, Eq, PartialOrd, Ord)]
 pub struct Text<const N: usize> {
     bytes: [u8; N],
 }
@@ -37,65 +32,19 @@ impl<const N: usize> Text<N> {
     pub fn trimmed(&self) -> &[u8]
         ensures { result.now ≡ trimmed self.now.bytes }
     {
-        without_end(&self.bytes)
+        let mut text: &[u8] = &self.bytes;
+        while let [rest @ .., BLANK] = text {
+            text = rest;
+        }
+        text
     }
-}
-
-fn without_end(bytes: &[u8]) -> &[u8]
-    ensures { result.now ≡ trimmed bytes.now }
-{
-    let mut end = bytes.len();
-    while end > 0 && bytes[end - 1] == BLANK {
-        end -= 1;
-    }
-    &bytes[0..end]
 }
 
 // The text without the blanks at its end, in UTF-8.
 impl<const N: usize> fmt::Display for Text<N> {
     fn fmt<W: fmt::Write>(&self, f: &mut fmt::Formatter<W>) -> fmt::Result {
-        for byte in self.trimmed() {
-            f.write_char(char::from(*byte))?;
-        }
-        Ok(())
-    }
-}
-
-// Compared byte by byte.
-impl<const N: usize> PartialEq for Text<N> {
-    ghost eq = { on (λ t. t.bytes) (pointwise ◌==◌) };
-
-    ghost laws = { partial_equiv_from_equiv (Prim.search (comparing, rules)) };
-
-    fn eq(&self, other: &Text<N>) -> bool {
-        self.bytes == other.bytes
-    }
-}
-
-impl<const N: usize> Eq for Text<N> {
-    ghost laws = { Prim.search (comparing, rules) };
-}
-
-impl<const N: usize> PartialOrd for Text<N> {
-    ghost partial_cmp = { on (λ t. t.bytes) (slice_partial_cmp (as_partial_cmp nat_cmp)) };
-
-    ghost laws = { on_po (λ t. t.bytes) (lists_po unsigned_po) };
-
-    fn partial_cmp(&self, other: &Text<N>) -> Option<Ordering> {
-        self.bytes.partial_cmp(&other.bytes)
-    }
-}
-
-impl<const N: usize> Ord for Text<N> {
-    ghost cmp = { on (λ t. t.bytes) (slice_cmp nat_cmp) };
-
-    ghost total = { Prim.search (comparing, rules) };
-
-    ghost matches_partial_cmp = { λ x y. lists_agrees {C = as_partial_cmp nat_cmp} (λ a b. refl) x.bytes y.bytes };
-
-    ghost matches_eq = { Prim.search (comparing, rules) };
-
-    fn cmp(&self, other: &Text<N>) -> Ordering {
-        self.bytes.cmp(&other.bytes)
+        self.trimmed()
+            .iter()
+            .try_for_each(|byte| f.write_char(char::from(*byte)))
     }
 }
