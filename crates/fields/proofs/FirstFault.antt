@@ -1,6 +1,5 @@
--- The fault of a field by its three tests, and the first fault of a row.
-use Rattle.std.proofs.Common.{◌≡◌, ℕ, ◌+◌, ◌<◌, ◌≤◌, Bool, true, false, List, [], ◌∷◌, length, get_or, drop, is_ok, Some, None, Ok, Err, Decides, Option, Result, sym, refl, ap, ◌∙◌, arith}
-use Rattle.std.proofs.lemmas.List.{at_drop_more}
+-- What a row without a fault says of its fields.
+use Rattle.std.proofs.Common.{◌≡◌, ℕ, ◌≤◌, Bool, true, false, List, [], ◌∷◌, is_ok, Some, None, Decides, Option, sym, refl, ◌∙◌, arith}
 use Rattle.std.proofs.lemmas.Bool.{false≢true}
 use Rattle.std.proofs.lemmas.Bool.Decides.{nat_tests}
 use Rattle.fields.specs.declared.fault.FieldFault.{FieldFault}
@@ -11,31 +10,6 @@ use Rattle.fields.specs.declared.rule.FieldType.{FieldType}
 use Rattle.fields.specs.declared.rule.Need.{Need}
 use Rattle.fields.specs.Bytes.{columns, value}
 use Rattle.fields.specs.Rules.{Keeps, Sound, allowed, bytes_of, checked, equal, fault, fault_when, field, typed_as, unless}
-
--- the three tests of a field whose bytes are bs
-module _ (c : Context) (row : List ℕ) (f : Field) (bs : List ℕ) (part : bs ≡ bytes_of f row) where
-  pub by_tests : (t a e : Bool) → t ≡ typed_as f bs → a ≡ allowed c f.content bs → e ≡ equal c f.content bs → fault_when t a e f.number ≡ fault c row f
-  unfolding fault
-  by_tests t a e p q r =
-      λ i. fault_when
-      ((p ∙ ap (typed_as f) part) i)
-      ((q ∙ ap (allowed c f.content) part) i)
-      ((r ∙ ap (equal c f.content) part) i)
-      f.number
-
--- what comes after a field does not show where it is at fault, and is all that shows where it is not
-pub unless_fault : (o : Option FieldFault) (x : FieldFault) (r : Result (Unit {0}) FieldFault) → Err x ≡ unless o (Ok tt) → Err x ≡ unless o r
-unless_fault None x r e = cc
-unless_fault (Some y) x r e = e
-
-pub unless_none : (o : Option FieldFault) (r : Result (Unit {0}) FieldFault) → Ok tt ≡ unless o (Ok tt) → unless o r ≡ r
-unless_none None r e = refl
-unless_none (Some y) r e = cc
-
--- one field less to look at
-pub checked_more : (c : Context) (row : List ℕ) (fs : List Field) (i : ℕ) (d : Field) → i < length fs →
-    checked c row (drop i fs) ≡ unless (fault c row (get_or fs i d)) (checked c row (drop (i + 1) fs))
-checked_more c row fs i d h = at_drop_more (checked c row) fs i d h
 
 -- a row has no fault exactly where each field keeps its rule
 pub checked_sound : (c : Context) (row : List ℕ) (fs : List Field) → Decides (is_ok (checked c row fs)) (Sound c row fs)

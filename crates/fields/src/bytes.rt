@@ -28,6 +28,7 @@ impl Class {
 }
 
 // The columns `first` to `last` of a row, counted from 1; fewer, where the row ends before.
+#[tactic(auto, using(std::proofs::lemmas::List::same_lists, std::proofs::lemmas::List::places), unfolding(crate::specs::Bytes::columns))]
 pub fn part(row: &[u8], first: u16, last: u16) -> &[u8]
     ensures { result.now ≡ columns first last row.now }
 {
@@ -49,6 +50,7 @@ pub fn number(bytes: &[u8]) -> u64
 }
 
 // The number in the columns `first` to `last` of a row, up to the largest number a u32 holds.
+#[tactic(auto, using(crate::proofs::Values::columns_short))]
 pub fn number_in(row: &[u8], first: u16, last: u16) -> u32
     ensures capped { result ≡ min (value (columns first last row.now)) 4294967295 }
     ensures short { last ≤ first + 7 → result ≡ value (columns first last row.now) }

@@ -109,6 +109,7 @@ impl Field {
     }
 
     // Whether the field keeps its rule in a row, or else its fault.
+    #[tactic(auto, unfolding(crate::specs::Rules::fault))]
     pub fn check(&self, context: &Context, row: &[u8]) -> Result<(), FieldFault>
         ensures { result ≡ unless (fault context.now row.now self.now) (Ok tt) }
     {

@@ -39,6 +39,7 @@ fn is_within(low: u32, high: u32, n: u32) -> bool
     low <= n && n <= high
 }
 
+#[tactic(auto, using(std::proofs::lemmas::Bool::Decides::nat_tests), unfolding(crate::specs::Calendar::on_calendar))]
 fn is_real(year: u32, month: u32, day: u32) -> bool
     ensures { result ≡ on_calendar year month day }
 {
@@ -48,6 +49,7 @@ fn is_real(year: u32, month: u32, day: u32) -> bool
 }
 
 impl Date {
+    #[tactic(auto, using(crate::proofs::Days::day_bounds), unfolding(crate::specs::Calendar::day_of))]
     pub fn new(year: u32, month: u32, day: u32) -> Option<Date>
         ensures { option_map (λ d. (d.year, d.month, d.day)) result ≡ day_of year month day }
     {
@@ -63,6 +65,7 @@ impl Date {
     }
 
     // The day that eight columns YYYYMMDD write.
+    #[tactic(auto, using(std::proofs::lemmas::Bool::Decides::nat_tests), unfolding(crate::specs::Calendar::date))]
     pub fn read(bytes: &[u8]) -> Option<Date>
         ensures { option_map (λ d. (d.year, d.month, d.day)) result ≡ date bytes.now }
     {

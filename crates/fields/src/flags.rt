@@ -16,6 +16,7 @@ pub enum KeyFlag {
 }
 
 impl KeyFlag {
+    #[tactic(auto, using(std::proofs::lemmas::Bool::Decides::nat_tests), unfolding(crate::specs::Flags::key_flag))]
     pub fn read(bytes: &[u8]) -> KeyFlag
         ensures { result ≡ key_flag bytes.now }
     {
@@ -38,6 +39,7 @@ impl KeyFlag {
 }
 
 // Whether an amendment flag counts 3.
+#[tactic(auto, using(std::proofs::lemmas::Bool::Decides::nat_tests), unfolding(crate::specs::Flags::amended))]
 pub fn is_amended(bytes: &[u8]) -> bool
     ensures { result ≡ amended bytes.now }
 {

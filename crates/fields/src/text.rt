@@ -13,6 +13,7 @@ pub struct Text<const N: usize> {
 
 impl<const N: usize> Text<N> {
     // The text in the columns of a field; all blanks, where there are fewer than N.
+    #[tactic(auto, using(std::proofs::lemmas::Bool::Decides::nat_tests), unfolding(crate::specs::Bytes::text))]
     pub fn read(columns: &[u8]) -> Text<N>
         ensures { result.bytes ≡ text N columns.now }
     {
@@ -29,6 +30,7 @@ impl<const N: usize> Text<N> {
     }
 
     // The text without the blanks at its end.
+    #[tactic(auto, using(crate::proofs::Trims::trimmed_more, crate::proofs::Trims::trimmed_done))]
     pub fn trimmed(&self) -> &[u8]
         ensures { result.now ≡ trimmed self.now.bytes }
     {
