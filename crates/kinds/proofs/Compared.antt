@@ -49,27 +49,17 @@ changed_line n Flag m = (λ _. tt, λ _. refl)
 pub unchanged : (ls : List Line) (ms : List Bool) → Decides (not (is_some (compared Deletion ls ms))) (Unchanged ls ms)
 unchanged ls ms = first_decides is_changed _ (λ l m. changed_line l.number l.cover m) ls ms
 
--- what a kind's comparison owes, once its answer is the comparison of its table and marks, and the marks tell whether
--- all told fields are equal
-pub comparison : {R T N K : Type 0} (m : Meaning R T N K) (t : T) (r : R) (ls : List Line) (ms : List Bool) (answer : Option ℕ) →
-    ls ≡ m.lines → ms ≡ m.marks t r → answer ≡ compared (m.key_flag r) ls ms →
-    (Unchanged m.lines (m.marks t r) → t ≡ m.told r) → (t ≡ m.told r → Unchanged m.lines (m.marks t r)) →
-    record {
-      value : answer ≡ compares m t r;
-      amended : m.key_flag r ≡ NoAmendment → Decides (not (is_some answer)) (TrueFlags m.lines (m.marks t r));
-      deleted : m.key_flag r ≡ Deletion → Decides (not (is_some answer)) (t ≡ m.told r);
-    }
-comparison m t r ls ms answer by_lines by-marks e there back =
-    record {
-      value = value;
-      amended = λ z. Decides-at _ _ (ap (λ o. not (is_some o)) (at NoAmendment z)) (true_flags m.lines (m.marks t r));
-      deleted = λ z.
-          let same = Decides-at _ _ (ap (λ o. not (is_some o)) (at Deletion z)) (unchanged m.lines (m.marks t r)) in
-          (λ e. there (same.0 e), λ e. same.1 (back e));
-    }
-  where
-    value : answer ≡ compares m t r
-    value = e ∙ (λ i. compared (m.key_flag r) (by_lines i) (by-marks i))
+-- what a kind's comparison owes, once its answer is the comparison of its table and marks
+module _ {R T N K : Type 0} (m : Meaning R T N K) (t : T) (r : R) (answer : Option ℕ) (value : answer ≡ compares m t r) where
+  at : (k : KeyFlag) → m.key_flag r ≡ k → answer ≡ compared k m.lines (m.marks t r)
+  at k z = value ∙ ap (λ k. compared k m.lines (m.marks t r)) z
 
-    at : (k : KeyFlag) → m.key_flag r ≡ k → answer ≡ compared k m.lines (m.marks t r)
-    at k z = value ∙ ap (λ k. compared k m.lines (m.marks t r)) z
+  pub amended_compares : m.key_flag r ≡ NoAmendment → Decides (not (is_some answer)) (TrueFlags m.lines (m.marks t r))
+  amended_compares z = Decides-at _ _ (ap (λ o. not (is_some o)) (at NoAmendment z)) (true_flags m.lines (m.marks t r))
+
+  -- and the marks tell whether all told fields are equal
+  pub deleted_compares : (Unchanged m.lines (m.marks t r) → t ≡ m.told r) → (t ≡ m.told r → Unchanged m.lines (m.marks t r)) →
+      m.key_flag r ≡ Deletion → Decides (not (is_some answer)) (t ≡ m.told r)
+  deleted_compares there back z =
+      let same = Decides-at _ _ (ap (λ o. not (is_some o)) (at Deletion z)) (unchanged m.lines (m.marks t r)) in
+      (λ e. there (same.0 e), λ e. same.1 (back e))

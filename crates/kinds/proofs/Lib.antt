@@ -1,6 +1,3 @@
 pub mod Compared
-pub mod FareTableRows
-pub mod SeriesRows
-pub mod StationRows
-pub mod Told
-pub mod Walks
+pub mod Types
+pub mod Zips

@@ -1,8 +1,12 @@
 pub mod Cover
 pub mod FareTable
+pub mod FareTableRows
 pub mod Meaning
 pub mod Orders
 pub mod Series
+pub mod SeriesRows
 pub mod Station
+pub mod StationRows
 pub mod Taking
+pub mod Told
 pub mod Values

@@ -1,11 +1,11 @@
 // How amendment flags cover the told fields of a row, and the comparison of a row with its older record.
-ghost use Rattle.kinds.specs.Cover.{compared, covered_by, differs_under, is_at_fault, is_changed, is_untrue};
+ghost use Rattle.kinds.specs.Cover.{compared, differs_under, is_at_fault, is_changed, is_untrue};
 ghost use Rattle.std.specs.Prelude.{◌≡◌};
 
 use fields::flags::KeyFlag;
 
 // What a line of a kind's cover table is.
-#[derive(Clone, Copy)]
+#[derive(Clone, Copy, PartialEq, Eq)]
 pub enum Cover {
     // a field that the flag with this number covers
     By(u8),
@@ -21,42 +21,6 @@ pub struct Line {
     pub cover: Cover,
 }
 
-impl Cover {
-    fn is_by(self, flag: u8) -> bool
-        ensures { result ≡ covered_by flag self }
-    {
-        match self {
-            Cover::By(by) => by == flag,
-            Cover::Steady | Cover::Flag => false,
-        }
-    }
-}
-
-// Whether a field that the flag covers differs.
-fn differs_under(flag: u8, lines: &[Line], marks: &[bool]) -> bool
-    ensures { result ≡ differs_under flag lines.now marks.now }
-{
-    for (i, line) in lines.iter().enumerate() {
-        if i >= marks.len() {
-            return false;
-        }
-        if line.cover.is_by(flag) && marks[i] {
-            return true;
-        }
-    }
-    false
-}
-
-fn is_untrue(lines: &[Line], marks: &[bool], line: &Line, mark: bool) -> bool
-    ensures { result ≡ is_untrue lines.now marks.now line.now mark }
-{
-    match line.cover {
-        Cover::By(_) => false,
-        Cover::Steady => mark,
-        Cover::Flag => mark != differs_under(line.number, lines, marks),
-    }
-}
-
 fn is_changed(line: &Line, mark: bool) -> bool
     ensures { result ≡ is_changed line.now mark }
 {
@@ -66,13 +30,42 @@ fn is_changed(line: &Line, mark: bool) -> bool
     }
 }
 
-fn is_at_fault(key_flag: KeyFlag, lines: &[Line], marks: &[bool], line: &Line, mark: bool) -> bool
-    ensures { result ≡ is_at_fault key_flag lines.now marks.now line.now mark }
-{
-    match key_flag {
-        KeyFlag::NoAmendment => is_untrue(lines, marks, line, mark),
-        KeyFlag::New => false,
-        KeyFlag::Deletion => is_changed(line, mark),
+// A cover table, and beside each line its mark.
+#[derive(Clone, Copy)]
+struct Marked<'a> {
+    lines: &'a [Line],
+    marks: &'a [bool],
+}
+
+impl Marked<'_> {
+    // Whether a field that the flag covers differs.
+    fn differs_under(&self, flag: u8) -> bool
+        ensures { result ≡ differs_under flag self.now.lines.now self.now.marks.now }
+    {
+        self.lines
+            .iter()
+            .zip(self.marks)
+            .any(|(line, mark)| line.cover == Cover::By(flag) && *mark)
+    }
+
+    fn is_untrue(&self, line: &Line, mark: bool) -> bool
+        ensures { result ≡ is_untrue self.now.lines.now self.now.marks.now line.now mark }
+    {
+        match line.cover {
+            Cover::By(_) => false,
+            Cover::Steady => mark,
+            Cover::Flag => mark != self.differs_under(line.number),
+        }
+    }
+
+    fn is_at_fault(&self, key_flag: KeyFlag, line: &Line, mark: bool) -> bool
+        ensures { result ≡ is_at_fault key_flag self.now.lines.now self.now.marks.now line.now mark }
+    {
+        match key_flag {
+            KeyFlag::NoAmendment => self.is_untrue(line, mark),
+            KeyFlag::New => false,
+            KeyFlag::Deletion => is_changed(line, mark),
+        }
     }
 }
 
@@ -80,13 +73,10 @@ fn is_at_fault(key_flag: KeyFlag, lines: &[Line], marks: &[bool], line: &Line, m
 pub fn first_fault(key_flag: KeyFlag, lines: &[Line], marks: &[bool]) -> Option<u8>
     ensures { result ≡ compared key_flag lines.now marks.now }
 {
-    for (i, line) in lines.iter().enumerate() {
-        if i >= marks.len() {
-            return None;
-        }
-        if is_at_fault(key_flag, lines, marks, line, marks[i]) {
-            return Some(line.number);
-        }
-    }
-    None
+    let marked = Marked { lines, marks };
+    lines
+        .iter()
+        .zip(marks)
+        .find(|(line, mark)| marked.is_at_fault(key_flag, line, **mark))
+        .map(|(line, _)| line.number)
 }

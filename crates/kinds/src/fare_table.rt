@@ -1,30 +1,29 @@
 // The description of a fare table.
 ghost use Rattle.kinds.specs.FareTable.{fare_table_flags, fare_table_in, fare_table_lines, fare_table_marks, fare_table_meaning, fare_table_table, fare_table_told, table_type_of, table_type_number};
-ghost use Rattle.std.specs.Prelude.{◌≡◌};
+ghost use Rattle.kinds.specs.FareTableRows.{fare_table_same, same_fare_table};
+ghost use Rattle.std.specs.Prelude.{◌≡◌, refl};
 ghost use Rattle.std.proofs.Common.{rules};
 
-use crate::cover::{Cover, Line, first_fault};
+use crate::cover::{Cover, Line};
 use crate::kind::Kind;
-use crate::values::texts_differ;
+use crate::values::{taken, texts_differ};
 use fields::bytes::{number_in, part};
-use fields::checker::check;
-use fields::fault::FieldFault;
 use fields::flags::{KeyFlag, is_amended};
 use fields::rule::FieldType::{Alphanumeric, Numeric};
 use fields::rule::Need::{Mandatory, Optional};
-use fields::rule::{Content, Context, Field};
+use fields::rule::{Content, Field};
 use fields::text::Text;
 use std::fmt;
 
 // How a fare table is built.
-#[derive(Clone, Copy)]
+#[derive(Clone, Copy, PartialEq, Eq)]
 pub enum TableType {
-    // 1: by distance
-    Distance,
-    // 2: by route
-    Route,
-    // 3: set fares
-    SetFare,
+    // by distance
+    Distance = 1,
+    // by route
+    Route = 2,
+    // set fares
+    SetFare = 3,
 }
 
 // What a buyer is told of a fare table.
@@ -93,19 +92,8 @@ static LINES: [Line; 10] = [
     Line { number: 15, cover: Cover::Flag },
 ];
 
-fn layout() -> &'static [Field]
-    ensures { result.now ≡ fare_table_table }
-{
-    &LAYOUT
-}
-
-fn lines() -> &'static [Line]
-    ensures { result.now ≡ fare_table_lines }
-{
-    &LINES
-}
-
 impl TableType {
+    // Any other number than 1 and 2 is the third type: so rows are read, but a public `From<u32>` would offer it to all.
     fn of(number: u32) -> TableType
         ensures { result ≡ table_type_of number }
     {
@@ -120,11 +108,7 @@ impl TableType {
     pub fn number(self) -> u32
         ensures { result ≡ table_type_number self }
     {
-        match self {
-            TableType::Distance => 1,
-            TableType::Route => 2,
-            TableType::SetFare => 3,
-        }
+        self as u32
     }
 }
 
@@ -152,41 +136,6 @@ fn flags_in(row: &[u8]) -> FareTableFlags
     }
 }
 
-// What the columns of a row say, whether they keep their rules or not.
-fn record_in(supplier: u32, row: &[u8]) -> FareTable
-    ensures { result ≡ fare_table_in supplier row.now }
-{
-    FareTable {
-        supplier,
-        number: number_in(row, 5, 8),
-        key_flag: KeyFlag::read(part(row, 9, 9)),
-        told: told_in(row),
-        amended: flags_in(row),
-        replaces: number_in(row, 186, 189),
-    }
-}
-
-impl FareTable {
-    fn marks(&self, older: &FareTableTold) -> [bool; 10]
-        ensures { result ≡ fare_table_marks older.now self.now }
-    {
-        let newer = &self.told;
-        let amended = &self.amended;
-        [
-            older.table_type.number() != newer.table_type.number(),
-            texts_differ(&older.official, &newer.official),
-            texts_differ(&older.french, &newer.french),
-            texts_differ(&older.german, &newer.german),
-            texts_differ(&older.english, &newer.english),
-            amended.descriptions,
-            texts_differ(&older.currency, &newer.currency),
-            amended.currency,
-            older.return_is_double != newer.return_is_double,
-            amended.return_is_double,
-        ]
-    }
-}
-
 impl Kind for FareTable {
     const LETTER: char = 'P';
 
@@ -200,26 +149,39 @@ impl Kind for FareTable {
 
     type Key = u32;
 
+    type Marks = [bool; 10];
+
     ghost meaning = { fare_table_meaning };
 
     ghost numbered = { Prim.search rules };
 
     ghost ordered = { Prim.search rules };
 
-    fn values(supplier: u32, row: &[u8]) -> FareTable {
-        record_in(supplier, row)
+    ghost supplied = { λ s row. refl };
+
+    ghost referred = { λ s row. refl };
+
+    ghost unchanged = { fare_table_same };
+
+    ghost alike = { same_fare_table };
+
+    fn layout() -> &'static [Field] {
+        &LAYOUT
     }
 
-    fn read(&mut self, supplier: u32, row: &[u8]) -> Result<(), FieldFault> {
-        let record = record_in(supplier, row);
-        let context = Context {
+    fn lines() -> &'static [Line] {
+        &LINES
+    }
+
+    fn values(supplier: u32, row: &[u8]) -> FareTable {
+        FareTable {
             supplier,
-            number: record.number,
-            key_flag: record.key_flag,
-        };
-        check(layout(), &context, row)?;
-        *self = record;
-        Ok(())
+            number: number_in(row, 5, 8),
+            key_flag: KeyFlag::read(part(row, 9, 9)),
+            told: told_in(row),
+            amended: flags_in(row),
+            replaces: number_in(row, 186, 189),
+        }
     }
 
     fn number(&self) -> u32 {
@@ -242,9 +204,21 @@ impl Kind for FareTable {
         self.number
     }
 
-    fn compare(&self, older: &FareTableTold) -> Option<u8> {
-        let marks = self.marks(older);
-        first_fault(self.key_flag, lines(), &marks)
+    fn marks(&self, older: &FareTableTold) -> [bool; 10] {
+        let newer = &self.told;
+        let amended = &self.amended;
+        [
+            older.table_type != newer.table_type,
+            texts_differ(&older.official, &newer.official),
+            texts_differ(&older.french, &newer.french),
+            texts_differ(&older.german, &newer.german),
+            texts_differ(&older.english, &newer.english),
+            amended.descriptions,
+            texts_differ(&older.currency, &newer.currency),
+            amended.currency,
+            older.return_is_double != newer.return_is_double,
+            amended.return_is_double,
+        ]
     }
 
     fn take_over(&self, older: &FareTableTold) -> FareTableTold {
@@ -257,16 +231,12 @@ impl Kind for FareTable {
             french: described.french,
             german: described.german,
             english: described.english,
-            currency: if amended.currency {
-                newer.currency
-            } else {
-                older.currency
-            },
-            return_is_double: if amended.return_is_double {
-                newer.return_is_double
-            } else {
-                older.return_is_double
-            },
+            currency: taken(amended.currency, newer.currency, older.currency),
+            return_is_double: taken(
+                amended.return_is_double,
+                newer.return_is_double,
+                older.return_is_double,
+            ),
         }
     }
 }

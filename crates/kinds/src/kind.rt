@@ -1,13 +1,17 @@
 // A kind of record: what a station, a series and a fare table have in common.
 ghost use Rattle.fields.specs.declared.flags.KeyFlag.TheVariants.{Deletion, NoAmendment};
-ghost use Rattle.kinds.specs.Cover.{TrueFlags};
+ghost use Rattle.kinds.specs.Cover.{TrueFlags, Unchanged};
 ghost use Rattle.kinds.specs.Meaning.{Meaning, compares, reads};
-ghost use Rattle.std.specs.Prelude.{◌≡◌, not, is_some, Ok, Err, Decides, MatchResult, OnOk};
+ghost use Rattle.std.specs.Prelude.{◌≡◌, ℕ, List, not, is_some, Ok, Err, Decides, MatchResult, OnOk};
 ghost use Rattle.std.specs.declared.cmp.Ordering.{Ordering};
 
+use crate::cover::{Line, first_fault};
+use fields::checker::check;
 use fields::fault::FieldFault;
 use fields::flags::KeyFlag;
+use fields::rule::{Context, Field};
 use std::cmp::Ord;
+use std::convert::AsSlice;
 
 pub trait Kind: Copy {
     const LETTER: char;
@@ -22,17 +26,23 @@ pub trait Kind: Copy {
 
     type Key: Ord + Copy;
 
+    type Marks: AsSlice<bool> + Copy;
+
     ghost meaning: { Meaning Self Self.Told Self.Number Self.Key };
+
+    // The table of a row's fields.
+    fn layout() -> &'static [Field]
+        ensures { result.now ≡ meaning.table };
+
+    // The cover table, with a line for each told field and each flag.
+    fn lines() -> &'static [Line]
+        ensures { result.now ≡ meaning.lines };
 
     // What the columns of a row say, whether they keep their rules or not.
     fn values(supplier: u32, row: &[u8]) -> Self
         ensures { result ≡ meaning.values supplier row.now };
 
-    // Reads a row under a head's supplier into this record, or gives the first field fault and leaves it as it was.
-    fn read(&mut self, supplier: u32, row: &[u8]) -> Result<(), FieldFault>
-        ensures reads { MatchResult result (λ _. reads meaning supplier row.now ≡ Ok self.new) (λ e. (reads meaning supplier row.now ≡ Err e) × (self.new ≡ self.old)) }
-        ensures supplier { OnOk result (meaning.supplier self.new ≡ supplier) };
-
+    // These read a field of a kind's own struct, which a body here could not.
     fn number(&self) -> Self::Number
         ensures { result ≡ meaning.number self.now };
 
@@ -49,11 +59,9 @@ pub trait Kind: Copy {
     fn order(&self) -> Self::Key
         ensures { result ≡ meaning.order self.now };
 
-    // The first untrue flag or changed steady field at key flag 0, the first changed told field at key flag 2.
-    fn compare(&self, older: &Self::Told) -> Option<u8>
-        ensures value { result ≡ compares meaning older.now self.now }
-        ensures amended { meaning.key_flag self.now ≡ NoAmendment → Decides (not (is_some result)) (TrueFlags meaning.lines (meaning.marks older.now self.now)) }
-        ensures deleted { meaning.key_flag self.now ≡ Deletion → Decides (not (is_some result)) (older.now ≡ meaning.told self.now) };
+    // Beside each line of the cover table, whether the told field differs from the older one or the flag counts 3.
+    fn marks(&self, older: &Self::Told) -> Self::Marks
+        ensures { Self.Marks.items result ≡ meaning.marks older.now self.now };
 
     // The older told fields, with those that a flag 3 covers replaced from this record.
     fn take_over(&self, older: &Self::Told) -> Self::Told
@@ -63,4 +71,39 @@ pub trait Kind: Copy {
     ghost numbered: { (x y : Self.Number) (r : Ordering) → (r ≡ Self.Number.Ord.cmp x y) → r ≡ meaning.numbers.cmp x y };
 
     ghost ordered: { (x y : Self.Key) (r : Ordering) → (r ≡ Self.Key.Ord.cmp x y) → r ≡ meaning.file_order.cmp x y };
+
+    // A record bears the supplier it is read under, and the rules of its row refer to its own number and key flag.
+    ghost supplied: { (s : ℕ) (row : List ℕ) → meaning.supplier (meaning.values s row) ≡ s };
+
+    ghost referred: { (s : ℕ) (row : List ℕ) → meaning.context s row ≡ record { supplier = s; number = meaning.record_number (meaning.number (meaning.values s row)); key_flag = meaning.key_flag (meaning.values s row) } };
+
+    // No mark of a told field is set exactly where all told fields are the older ones.
+    ghost unchanged: { (t : Self.Told) (r : Self) → Unchanged meaning.lines (meaning.marks t r) → t ≡ meaning.told r };
+
+    ghost alike: { (t : Self.Told) (r : Self) → t ≡ meaning.told r → Unchanged meaning.lines (meaning.marks t r) };
+
+    // Reads a row under a head's supplier into this record, or gives the first field fault and leaves it as it was.
+    final fn read(&mut self, supplier: u32, row: &[u8]) -> Result<(), FieldFault>
+        ensures reads { MatchResult result (λ _. reads meaning supplier row.now ≡ Ok self.new) (λ e. (reads meaning supplier row.now ≡ Err e) × (self.new ≡ self.old)) }
+        ensures supplier { OnOk result (meaning.supplier self.new ≡ supplier) }
+    {
+        let record = Self::values(supplier, row);
+        let context = Context {
+            supplier,
+            number: Self::record_number(record.number()),
+            key_flag: record.key_flag(),
+        };
+        check(Self::layout(), &context, row)?;
+        *self = record;
+        Ok(())
+    }
+
+    // The first untrue flag or changed steady field at key flag 0, the first changed told field at key flag 2.
+    final fn compare(&self, older: &Self::Told) -> Option<u8>
+        ensures value { result ≡ compares meaning older.now self.now }
+        ensures amended { meaning.key_flag self.now ≡ NoAmendment → Decides (not (is_some result)) (TrueFlags meaning.lines (meaning.marks older.now self.now)) }
+        ensures deleted { meaning.key_flag self.now ≡ Deletion → Decides (not (is_some result)) (older.now ≡ meaning.told self.now) }
+    {
+        first_fault(self.key_flag(), Self::lines(), self.marks(older).as_slice())
+    }
 }

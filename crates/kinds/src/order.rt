@@ -2,11 +2,11 @@
 ghost use Rattle.std.specs.Ordering.{is_gt};
 ghost use Rattle.std.specs.Prelude.{◌≡◌};
 
-use std::cmp::{Ord, Ordering};
+use std::cmp::Ord;
 
 // Whether the row before comes later in file order; equal keys may follow one another.
 pub fn comes_later<O: Ord>(before: &O, after: &O) -> bool
     ensures { result ≡ is_gt (O.Ord.cmp before.now after.now) }
 {
-    before.cmp(after) == Ordering::Greater
+    before.cmp(after).is_gt()
 }

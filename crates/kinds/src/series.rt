@@ -1,31 +1,30 @@
 // A series: a numbered route between two stations.
 ghost use Rattle.kinds.specs.Series.{end_columns, series_flags, series_in, series_lines, series_marks, series_meaning, series_table, series_told, series_type_of, type_number};
-ghost use Rattle.std.specs.Prelude.{◌≡◌, ◌+◌, ◌≤◌};
+ghost use Rattle.kinds.specs.SeriesRows.{series_same, same_series};
+ghost use Rattle.std.specs.Prelude.{◌≡◌, refl, ◌+◌, ◌≤◌};
 ghost use Rattle.std.proofs.Common.{rules};
 
-use crate::cover::{Cover, Line, first_fault};
+use crate::cover::{Cover, Line};
 use crate::kind::Kind;
-use crate::values::texts_differ;
+use crate::values::{taken, texts_differ};
 use fields::bytes::{number_in, part};
-use fields::checker::check;
 use fields::class::Class;
-use fields::fault::FieldFault;
 use fields::flags::{KeyFlag, is_amended};
 use fields::rule::FieldType::{Alphanumeric, Numeric};
 use fields::rule::Need::{Mandatory, Optional};
-use fields::rule::{Content, Context, Field};
+use fields::rule::{Content, Field};
 use fields::text::Text;
 use std::fmt;
 
 // What a series leads between.
-#[derive(Clone, Copy)]
+#[derive(Clone, Copy, PartialEq, Eq)]
 pub enum SeriesType {
-    // 1: from border to border
-    Transit,
-    // 2: from a border to a station
-    Border,
-    // 3: from station to station
-    Stations,
+    // from border to border
+    Transit = 1,
+    // from a border to a station
+    Border = 2,
+    // from station to station
+    Stations = 3,
 }
 
 // Where a series starts or ends.
@@ -77,6 +76,7 @@ pub struct Series {
 // By which series stand in their file.
 #[derive(Clone, Copy, PartialEq, Eq, PartialOrd, Ord)]
 pub struct SeriesKey {
+    // a number and no `SeriesType`, so that a key of any number can still be made
     pub series_type: u32,
     pub departure: Text<17>,
     pub destination: Text<17>,
@@ -132,19 +132,8 @@ static LINES: [Line; 19] = [
     Line { number: 22, cover: Cover::Flag },
 ];
 
-fn layout() -> &'static [Field]
-    ensures { result.now ≡ series_table }
-{
-    &LAYOUT
-}
-
-fn lines() -> &'static [Line]
-    ensures { result.now ≡ series_lines }
-{
-    &LINES
-}
-
 impl SeriesType {
+    // Any other number than 1 and 2 is the third type: so rows are read, but a public `From<u32>` would offer it to all.
     fn of(number: u32) -> SeriesType
         ensures { result ≡ series_type_of number }
     {
@@ -159,11 +148,7 @@ impl SeriesType {
     pub fn number(self) -> u32
         ensures { result ≡ type_number self }
     {
-        match self {
-            SeriesType::Transit => 1,
-            SeriesType::Border => 2,
-            SeriesType::Stations => 3,
-        }
+        self as u32
     }
 }
 
@@ -207,52 +192,6 @@ fn flags_in(row: &[u8]) -> SeriesFlags
     }
 }
 
-// What the columns of a row say, whether they keep their rules or not.
-fn record_in(supplier: u32, row: &[u8]) -> Series
-    ensures { result ≡ series_in supplier row.now }
-{
-    Series {
-        supplier,
-        number: number_in(row, 5, 9),
-        key_flag: KeyFlag::read(part(row, 10, 10)),
-        told: told_in(row),
-        amended: flags_in(row),
-    }
-}
-
-impl Series {
-    fn marks(&self, older: &SeriesTold) -> [bool; 19]
-        ensures { result ≡ series_marks older.now self.now }
-    {
-        let newer = &self.told;
-        let amended = &self.amended;
-        [
-            older.series_type.number() != newer.series_type.number(),
-            amended.series_type,
-            older.departure.station != newer.departure.station,
-            older.departure.connection != newer.departure.connection,
-            texts_differ(&older.departure.designation, &newer.departure.designation),
-            amended.departure,
-            older.destination.station != newer.destination.station,
-            older.destination.connection != newer.destination.connection,
-            texts_differ(
-                &older.destination.designation,
-                &newer.destination.designation,
-            ),
-            amended.destination,
-            older.route_number != newer.route_number,
-            older.product != newer.product,
-            older.offer != newer.offer,
-            older.usual != newer.usual,
-            amended.route,
-            older.bus != newer.bus,
-            amended.bus,
-            older.ferry != newer.ferry,
-            amended.ferry,
-        ]
-    }
-}
-
 impl Kind for Series {
     const LETTER: char = 'S';
 
@@ -266,26 +205,38 @@ impl Kind for Series {
 
     type Key = SeriesKey;
 
+    type Marks = [bool; 19];
+
     ghost meaning = { series_meaning };
 
     ghost numbered = { Prim.search rules };
 
     ghost ordered = { λ x y r e. e };
 
-    fn values(supplier: u32, row: &[u8]) -> Series {
-        record_in(supplier, row)
+    ghost supplied = { λ s row. refl };
+
+    ghost referred = { λ s row. refl };
+
+    ghost unchanged = { series_same };
+
+    ghost alike = { same_series };
+
+    fn layout() -> &'static [Field] {
+        &LAYOUT
     }
 
-    fn read(&mut self, supplier: u32, row: &[u8]) -> Result<(), FieldFault> {
-        let record = record_in(supplier, row);
-        let context = Context {
+    fn lines() -> &'static [Line] {
+        &LINES
+    }
+
+    fn values(supplier: u32, row: &[u8]) -> Series {
+        Series {
             supplier,
-            number: record.number,
-            key_flag: record.key_flag,
-        };
-        check(layout(), &context, row)?;
-        *self = record;
-        Ok(())
+            number: number_in(row, 5, 9),
+            key_flag: KeyFlag::read(part(row, 10, 10)),
+            told: told_in(row),
+            amended: flags_in(row),
+        }
     }
 
     fn number(&self) -> u32 {
@@ -313,9 +264,33 @@ impl Kind for Series {
         }
     }
 
-    fn compare(&self, older: &SeriesTold) -> Option<u8> {
-        let marks = self.marks(older);
-        first_fault(self.key_flag, lines(), &marks)
+    fn marks(&self, older: &SeriesTold) -> [bool; 19] {
+        let newer = &self.told;
+        let amended = &self.amended;
+        [
+            older.series_type != newer.series_type,
+            amended.series_type,
+            older.departure.station != newer.departure.station,
+            older.departure.connection != newer.departure.connection,
+            texts_differ(&older.departure.designation, &newer.departure.designation),
+            amended.departure,
+            older.destination.station != newer.destination.station,
+            older.destination.connection != newer.destination.connection,
+            texts_differ(
+                &older.destination.designation,
+                &newer.destination.designation,
+            ),
+            amended.destination,
+            older.route_number != newer.route_number,
+            older.product != newer.product,
+            older.offer != newer.offer,
+            older.usual != newer.usual,
+            amended.route,
+            older.bus != newer.bus,
+            amended.bus,
+            older.ferry != newer.ferry,
+            amended.ferry,
+        ]
     }
 
     fn take_over(&self, older: &SeriesTold) -> SeriesTold {
@@ -323,31 +298,15 @@ impl Kind for Series {
         let amended = &self.amended;
         let route = if amended.route { newer } else { older };
         SeriesTold {
-            series_type: if amended.series_type {
-                newer.series_type
-            } else {
-                older.series_type
-            },
-            departure: if amended.departure {
-                newer.departure
-            } else {
-                older.departure
-            },
-            destination: if amended.destination {
-                newer.destination
-            } else {
-                older.destination
-            },
+            series_type: taken(amended.series_type, newer.series_type, older.series_type),
+            departure: taken(amended.departure, newer.departure, older.departure),
+            destination: taken(amended.destination, newer.destination, older.destination),
             route_number: route.route_number,
             product: route.product,
             offer: route.offer,
             usual: route.usual,
-            bus: if amended.bus { newer.bus } else { older.bus },
-            ferry: if amended.ferry {
-                newer.ferry
-            } else {
-                older.ferry
-            },
+            bus: taken(amended.bus, newer.bus, older.bus),
+            ferry: taken(amended.ferry, newer.ferry, older.ferry),
         }
     }
 }

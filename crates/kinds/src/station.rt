@@ -1,18 +1,17 @@
 // A station of a carrier's network.
 ghost use Rattle.kinds.specs.Station.{flag_columns, station_in, station_lines, station_marks, station_meaning, station_table, told_columns};
-ghost use Rattle.std.specs.Prelude.{◌≡◌};
+ghost use Rattle.kinds.specs.StationRows.{station_same, same_station};
+ghost use Rattle.std.specs.Prelude.{◌≡◌, refl};
 ghost use Rattle.std.proofs.Common.{rules};
 
-use crate::cover::{Cover, Line, first_fault};
+use crate::cover::{Cover, Line};
 use crate::kind::Kind;
-use crate::values::texts_differ;
+use crate::values::{taken, texts_differ};
 use fields::bytes::{number_in, part};
-use fields::checker::check;
-use fields::fault::FieldFault;
 use fields::flags::{KeyFlag, is_amended};
 use fields::rule::FieldType::{Alphanumeric, Numeric};
 use fields::rule::Need::{Mandatory, Optional};
-use fields::rule::{Content, Context, Field};
+use fields::rule::{Content, Field};
 use fields::text::Text;
 use std::fmt;
 
@@ -74,18 +73,6 @@ static LINES: [Line; 8] = [
     Line { number: 12, cover: Cover::Flag },
 ];
 
-fn layout() -> &'static [Field]
-    ensures { result.now ≡ station_table }
-{
-    &LAYOUT
-}
-
-fn lines() -> &'static [Line]
-    ensures { result.now ≡ station_lines }
-{
-    &LINES
-}
-
 fn told_in(row: &[u8]) -> StationTold
     ensures { result ≡ told_columns row.now }
 {
@@ -108,37 +95,6 @@ fn flags_in(row: &[u8]) -> StationFlags
     }
 }
 
-// What the columns of a row say, whether they keep their rules or not.
-fn record_in(supplier: u32, row: &[u8]) -> Station
-    ensures { result ≡ station_in supplier row.now }
-{
-    Station {
-        supplier,
-        number: number_in(row, 5, 9),
-        key_flag: KeyFlag::read(part(row, 10, 10)),
-        told: told_in(row),
-        amended: flags_in(row),
-    }
-}
-
-impl Station {
-    fn marks(&self, older: &StationTold) -> [bool; 8]
-        ensures { result ≡ station_marks older.now self.now }
-    {
-        let newer = &self.told;
-        [
-            texts_differ(&older.name, &newer.name),
-            self.amended.name,
-            texts_differ(&older.designation, &newer.designation),
-            self.amended.designation,
-            texts_differ(&older.route_description, &newer.route_description),
-            self.amended.route_description,
-            older.zone != newer.zone,
-            self.amended.zone,
-        ]
-    }
-}
-
 impl Kind for Station {
     const LETTER: char = 'G';
 
@@ -152,26 +108,38 @@ impl Kind for Station {
 
     type Key = Text<17>;
 
+    type Marks = [bool; 8];
+
     ghost meaning = { station_meaning };
 
     ghost numbered = { Prim.search rules };
 
     ghost ordered = { λ x y r e. e };
 
-    fn values(supplier: u32, row: &[u8]) -> Station {
-        record_in(supplier, row)
+    ghost supplied = { λ s row. refl };
+
+    ghost referred = { λ s row. refl };
+
+    ghost unchanged = { station_same };
+
+    ghost alike = { same_station };
+
+    fn layout() -> &'static [Field] {
+        &LAYOUT
     }
 
-    fn read(&mut self, supplier: u32, row: &[u8]) -> Result<(), FieldFault> {
-        let record = record_in(supplier, row);
-        let context = Context {
+    fn lines() -> &'static [Line] {
+        &LINES
+    }
+
+    fn values(supplier: u32, row: &[u8]) -> Station {
+        Station {
             supplier,
-            number: record.number,
-            key_flag: record.key_flag,
-        };
-        check(layout(), &context, row)?;
-        *self = record;
-        Ok(())
+            number: number_in(row, 5, 9),
+            key_flag: KeyFlag::read(part(row, 10, 10)),
+            told: told_in(row),
+            amended: flags_in(row),
+        }
     }
 
     fn number(&self) -> u32 {
@@ -194,27 +162,32 @@ impl Kind for Station {
         self.told.designation
     }
 
-    fn compare(&self, older: &StationTold) -> Option<u8> {
-        let marks = self.marks(older);
-        first_fault(self.key_flag, lines(), &marks)
+    fn marks(&self, older: &StationTold) -> [bool; 8] {
+        let newer = &self.told;
+        [
+            texts_differ(&older.name, &newer.name),
+            self.amended.name,
+            texts_differ(&older.designation, &newer.designation),
+            self.amended.designation,
+            texts_differ(&older.route_description, &newer.route_description),
+            self.amended.route_description,
+            older.zone != newer.zone,
+            self.amended.zone,
+        ]
     }
 
     fn take_over(&self, older: &StationTold) -> StationTold {
         let newer = &self.told;
         let amended = &self.amended;
         StationTold {
-            name: if amended.name { newer.name } else { older.name },
-            designation: if amended.designation {
-                newer.designation
-            } else {
-                older.designation
-            },
-            route_description: if amended.route_description {
-                newer.route_description
-            } else {
-                older.route_description
-            },
-            zone: if amended.zone { newer.zone } else { older.zone },
+            name: taken(amended.name, newer.name, older.name),
+            designation: taken(amended.designation, newer.designation, older.designation),
+            route_description: taken(
+                amended.route_description,
+                newer.route_description,
+                older.route_description,
+            ),
+            zone: taken(amended.zone, newer.zone, older.zone),
         }
     }
 }

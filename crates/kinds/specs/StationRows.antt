@@ -5,7 +5,7 @@ use Rattle.kinds.specs.declared.station.StationTold.{StationTold}
 use Rattle.kinds.specs.Cover.{Unchanged}
 use Rattle.kinds.specs.Station.{station_lines, station_marks}
 use Rattle.kinds.specs.Taking.{same_number, same_text}
-use Rattle.kinds.proofs.Told.{number_same, text_same}
+use Rattle.kinds.specs.Told.{number_same, text_same}
 
 pub station_same : (t : StationTold) (r : Station) → Unchanged station_lines (station_marks t r) → t ≡ r.told
 station_same t r h =

@@ -5,7 +5,7 @@ use Rattle.kinds.specs.declared.series.SeriesTold.{SeriesTold}
 use Rattle.kinds.specs.Cover.{Unchanged}
 use Rattle.kinds.specs.Series.{same_type, series_lines, series_marks, type_number}
 use Rattle.kinds.specs.Taking.{same_number, same_sign, same_text}
-use Rattle.kinds.proofs.Told.{number_same, sign_same, text_same}
+use Rattle.kinds.specs.Told.{number_same, sign_same, text_same}
 
 pub series_same : (t : SeriesTold) (r : Series) → Unchanged series_lines (series_marks t r) → t ≡ r.told
 series_same t r h =

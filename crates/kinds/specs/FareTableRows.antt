@@ -5,7 +5,7 @@ use Rattle.kinds.specs.declared.fare_table.FareTableTold.{FareTableTold}
 use Rattle.kinds.specs.Cover.{Unchanged}
 use Rattle.kinds.specs.FareTable.{fare_table_lines, fare_table_marks, same_table_type, table_type_number}
 use Rattle.kinds.specs.Taking.{same_number, same_sign, same_text}
-use Rattle.kinds.proofs.Told.{number_same, sign_same, text_same}
+use Rattle.kinds.specs.Told.{number_same, sign_same, text_same}
 
 pub fare_table_same : (t : FareTableTold) (r : FareTable) → Unchanged fare_table_lines (fare_table_marks t r) → t ≡ r.told
 fare_table_same t r h =
