@@ -43,14 +43,7 @@ impl LineFault {
             LineFault::DoesNotFollow => 12,
             LineFault::NoReceiptLeft => 13,
         };
-        Parts {
-            number,
-            layer: Layer::Line,
-            letter: '-',
-            row: 0,
-            field: 0,
-            record: 0,
-        }
+        Parts::of(number, Layer::Line)
     }
 
     fn advice(&self) -> &'static str {
@@ -73,12 +66,8 @@ impl BookFault {
             BookFault::Line(fault) => fault.parts(),
             BookFault::Entry(letter, fault) => fault.parts(letter),
             BookFault::Full(letter) => Parts {
-                number: 18,
-                layer: Layer::Run,
                 letter,
-                row: 0,
-                field: 0,
-                record: 0,
+                ..Parts::of(18, Layer::Run)
             },
         }
     }
@@ -93,10 +82,9 @@ impl BookFault {
     }
 }
 
+// One line for each kind of fault: a function or a trait that they shared would be called by a line as long.
 impl fmt::Display for BookFault {
     fn fmt<W: fmt::Write>(&self, f: &mut fmt::Formatter<W>) -> fmt::Result {
-        let parts = self.parts();
-        let advice = self.advice();
-        write!(f, "{parts} ({advice})")
+        write!(f, "{} ({})", self.parts(), self.advice())
     }
 }

@@ -7,7 +7,7 @@ use Rattle.kinds.specs.declared.series.End.{End}
 use Rattle.kinds.specs.declared.series.Series.{Series}
 use Rattle.kinds.specs.declared.station.Station.{Station}
 use Rattle.kinds.specs.Taking.{same_text}
-use Rattle.kinds.proofs.Told.{text_same}
+use Rattle.kinds.specs.Told.{text_same}
 use Rattle.files.specs.First.{at_index, first, or_else}
 use Rattle.files.proofs.Firsts.{first_some, some_none}
 use Rattle.deliveries.specs.declared.fault.AcrossFault.{AcrossFault}

@@ -27,12 +27,8 @@ impl HeadFault {
             HeadFault::WrongSize => (3, 2),
         };
         Parts {
-            number,
-            layer: Layer::Head,
-            letter: '-',
-            row: 0,
             field,
-            record: 0,
+            ..Parts::of(number, Layer::Head)
         }
     }
 
@@ -64,11 +60,10 @@ fn field_advice(field: u8) -> &'static str {
     }
 }
 
+// One line for each kind of fault: a function or a trait that they shared would be called by a line as long.
 impl fmt::Display for HeadFault {
     fn fmt<W: fmt::Write>(&self, f: &mut fmt::Formatter<W>) -> fmt::Result {
-        let parts = self.parts();
-        let advice = self.advice();
-        write!(f, "{parts} ({advice})")
+        write!(f, "{} ({})", self.parts(), self.advice())
     }
 }
 
@@ -105,24 +100,17 @@ impl DeliveryFault {
         match *self {
             DeliveryFault::Head(fault) => fault.parts(),
             DeliveryFault::Row(letter, fault) => fault.parts(letter),
-            DeliveryFault::Across(row, AcrossFault::NoStation(field, record)) => {
+            DeliveryFault::Across(row, fault) => {
+                let (number, field, record) = match fault {
+                    AcrossFault::NoStation(field, record) => (9, field, record),
+                    AcrossFault::OtherDesignation(field, record) => (10, field, record),
+                };
                 Parts {
-                    number: 9,
-                    layer: Layer::Across,
                     letter: 'S',
                     row,
                     field,
                     record,
-                }
-            }
-            DeliveryFault::Across(row, AcrossFault::OtherDesignation(field, record)) => {
-                Parts {
-                    number: 10,
-                    layer: Layer::Across,
-                    letter: 'S',
-                    row,
-                    field,
-                    record,
+                    ..Parts::of(number, Layer::Across)
                 }
             }
         }
@@ -143,10 +131,9 @@ impl DeliveryFault {
     }
 }
 
+// One line for each kind of fault: a function or a trait that they shared would be called by a line as long.
 impl fmt::Display for DeliveryFault {
     fn fmt<W: fmt::Write>(&self, f: &mut fmt::Formatter<W>) -> fmt::Result {
-        let parts = self.parts();
-        let advice = self.advice();
-        write!(f, "{parts} ({advice})")
+        write!(f, "{} ({})", self.parts(), self.advice())
     }
 }

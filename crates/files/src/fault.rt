@@ -36,29 +36,21 @@ impl FileFault {
     pub fn parts(&self, letter: char) -> Parts
         ensures { result ≡ row_parts letter self.now.row self.now.fault }
     {
-        let row = self.row;
-        match self.fault {
-            RowFault::Field(fault) => Parts {
-                letter,
-                row,
-                ..fault.parts()
-            },
+        let parts = match self.fault {
+            RowFault::Field(fault) => fault.parts(),
             RowFault::Later(record) => Parts {
-                number: 7,
-                layer: Layer::Row,
-                letter,
-                row,
-                field: 0,
                 record,
+                ..Parts::of(7, Layer::Row)
             },
             RowFault::Twice(record) => Parts {
-                number: 8,
-                layer: Layer::Row,
-                letter,
-                row,
-                field: 0,
                 record,
+                ..Parts::of(8, Layer::Row)
             },
+        };
+        Parts {
+            letter,
+            row: self.row,
+            ..parts
         }
     }
 

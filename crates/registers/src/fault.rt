@@ -33,12 +33,11 @@ impl EntryFault {
             EntryFault::Untrue(field, record) => (16, field, record),
         };
         Parts {
-            number,
-            layer: Layer::Entry,
             letter,
             row,
             field,
             record,
+            ..Parts::of(number, Layer::Entry)
         }
     }
 
@@ -64,12 +63,9 @@ impl RegisterFault {
         match *self {
             RegisterFault::Row(row, fault) => fault.parts(letter, row),
             RegisterFault::Missing(record) => Parts {
-                number: 17,
-                layer: Layer::Entry,
                 letter,
-                row: 0,
-                field: 0,
                 record,
+                ..Parts::of(17, Layer::Entry)
             },
         }
     }
