@@ -24,10 +24,7 @@ impl Need {
 fn starts_blank(bytes: &[u8]) -> bool
     ensures { result ≡ (slice_index_or bytes.now 0 32 == 32) }
 {
-    match bytes.first() {
-        Some(byte) => *byte == BLANK,
-        None => true,
-    }
+    bytes.first().is_none_or(|byte| *byte == BLANK)
 }
 
 impl FieldType {

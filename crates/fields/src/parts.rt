@@ -17,7 +17,7 @@ pub enum Layer {
     Copy,
 }
 
-// What is not told is 0, or '-' for the letter.
+// What is not told is 0, or '-' for the letter, as a fault's line has it: options would be turned into these again.
 #[derive(Clone, Copy, PartialEq, Eq, Debug)]
 pub struct Parts {
     pub number: u8,

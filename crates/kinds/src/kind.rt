@@ -14,7 +14,9 @@ use std::cmp::Ord;
 use std::convert::AsSlice;
 
 pub trait Kind: Copy {
+    // the letter itself, since deliveries, answers and faults bear it
     const LETTER: char;
+
     // the length of a row is from the least to the greatest
     const LEAST: u32;
 

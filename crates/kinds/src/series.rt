@@ -133,7 +133,8 @@ static LINES: [Line; 19] = [
 ];
 
 impl SeriesType {
-    // Any other number than 1 and 2 is the third type: so rows are read, but a public `From<u32>` would offer it to all.
+    // Any other number than 1 and 2 is the third type: a public `From<u32>` would offer that to all, and a trait for this
+    // and the other enum of types would be longer than both.
     fn of(number: u32) -> SeriesType
         ensures { result ≡ series_type_of number }
     {
