@@ -2,7 +2,7 @@
 ghost use Rattle.fields.specs.declared.flags.KeyFlag.TheVariants.{Deletion, NoAmendment};
 ghost use Rattle.kinds.specs.Cover.{TrueFlags};
 ghost use Rattle.kinds.specs.Meaning.{Meaning, compares, reads};
-ghost use Rattle.std.specs.Prelude.{◌≡◌, not, is_some, Ok, Err, Decides, MatchResult, OnOk};
+ghost use Rattle.std.specs.Prelude.{◌≡◌, ℕ, List, not, is_some, Ok, Err, Decides, MatchResult, OnOk};
 ghost use Rattle.std.specs.declared.cmp.Ordering.{Ordering};
 
 use fields::fault::FieldFault;
@@ -15,6 +15,8 @@ pub trait Kind: Copy {
     const LEAST: u32;
 
     const GREATEST: u32;
+
+    ghost LETTER: { ℕ };
 
     type Number: Ord + Copy;
 

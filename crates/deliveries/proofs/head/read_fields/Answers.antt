@@ -1,4 +1,4 @@
-use Rattle.std.proofs.Common.{◌≡◌, Ok, Err, subst, lit≤}
+use Rattle.std.proofs.Common.{◌≡◌, Ok, Err, subst, lit≤, rules}
 use Rattle.std.proofs.lemmas.Result.{err_from_is_err_and}
 use Rattle.fields.specs.Rules.{checked}
 use Rattle.deliveries.specs.Head.{no_context}
@@ -25,9 +25,9 @@ returns c =
       long = c.if-bytes-lt-HEAD_LENGTH.false;
       kept = subst (λ t. Ok tt ≡ checked no_context c.args.bytes.now t) c.layout.ensures c.in_ok-check.ensures.first;
       bears = record {
-        stations = c.extent_in.ensures (lit≤ tt) (lit≤ tt);
-        series = c.extent_in-2.ensures (lit≤ tt) (lit≤ tt);
-        tables = c.extent_in-3.ensures (lit≤ tt) (lit≤ tt);
+        stations = search rules;
+        series = search rules;
+        tables = search rules;
         supplier = c.number_in.ensures.short (lit≤ tt);
         first_day = rw (← c.part.ensures) c.in-Some.ensures;
         version = c.number_in-2.ensures.short (lit≤ tt);

@@ -12,7 +12,7 @@ returns-in_err-head c =
 pub check_rows-requires : goal.check_rows-requires
 check_rows-requires c =
     let h = c.in_ok-head.ensures in
-    record { whole = whole c.args.bytes.now _ (h.kept.0 refl) h.first.1; room = refl; more_room = refl }
+    whole c.args.bytes.now _ (h.kept.0 refl) h.first.1
 
 pub returns-in_err-check_rows : goal.returns-in_err-check_rows
 returns-in_err-check_rows c =
