@@ -1,5 +1,5 @@
 -- A series has no fault beside its stations exactly where it joins them.
-use Rattle.std.proofs.Common.{◌≡◌, ℕ, zero, suc, ◌<◌, Bool, true, false, cond, ◌&&◌, eqb, Some, None, Option, sym, refl, ap, ◌∙◌, arith, MatchOption}
+use Rattle.std.proofs.Common.{◌≡◌, ℕ, ◌<◌, Bool, true, false, cond, ◌&&◌, eqb, Some, None, Option, sym, refl, ap, ◌∙◌, MatchOption}
 use Rattle.std.specs.Option.{option_map}
 use Rattle.std.proofs.lemmas.Bool.{and_left, and_parts, eq-eqb, eqb-true, ne_eqb}
 use Rattle.fields.specs.Flags.{stays}
@@ -8,7 +8,7 @@ use Rattle.kinds.specs.declared.series.Series.{Series}
 use Rattle.kinds.specs.declared.station.Station.{Station}
 use Rattle.kinds.specs.Taking.{same_text}
 use Rattle.kinds.proofs.Told.{text_same}
-use Rattle.files.specs.First.{at_index, first, or_else}
+use Rattle.files.specs.First.{first, or_else}
 use Rattle.files.proofs.Firsts.{first_says, first_some, some_none}
 use Rattle.deliveries.specs.declared.fault.AcrossFault.{AcrossFault}
 use Rattle.deliveries.specs.declared.fault.AcrossFault.TheVariants.{OtherDesignation}

@@ -1,22 +1,19 @@
 -- The rows of a delivery's files by its bytes, and the first fault of all of them.
-use Rattle.std.proofs.Common.{◌≡◌, ℕ, ◌≤◌, min, true, List, drop, is_ok, None, Ok, Err, Option, Result, refl, ap, ◌∙◌, arith}
-use Rattle.std.specs.Result.{result_err}
+use Rattle.std.proofs.Common.{◌≡◌, ℕ, ◌≤◌, min, List, drop, Option, ap, ◌∙◌, arith}
 use Rattle.kinds.specs.FareTable.{fare_table_meaning}
 use Rattle.kinds.specs.Meaning.{Meaning}
 use Rattle.kinds.specs.Series.{series_meaning}
 use Rattle.kinds.specs.Station.{station_meaning}
 use Rattle.fields.specs.Bytes.{columns, value}
-use Rattle.files.specs.declared.fault.FileFault.{FileFault}
 use Rattle.files.specs.declared.rows.Rows.{Rows}
-use Rattle.files.specs.Files.{file_fault, record_at, row_of, told}
+use Rattle.files.specs.Files.{file_fault, record_at, row_of}
 use Rattle.files.specs.First.{first, or_else}
 use Rattle.files.specs.Rows.{record_in, row_in}
-use Rattle.files.proofs.Firsts.{some_none}
 use Rattle.deliveries.specs.declared.fault.DeliveryFault.{DeliveryFault}
 use Rattle.deliveries.specs.declared.head.Head.{Head}
 use Rattle.deliveries.specs.declared.reading.Files.{Files}
 use Rattle.deliveries.specs.Across.{series_fault}
-use Rattle.deliveries.specs.Delivery.{RowsOf, beside, in_file, lettered, rows_fault, series, series_count, series_row, series_start, station, station_count, station_row, supplier, table_count, table_row, table_start}
+use Rattle.deliveries.specs.Delivery.{RowsOf, beside, in_file, rows_fault, series, series_count, series_row, series_start, station, station_count, station_row, supplier, table_count, table_row, table_start}
 use Rattle.deliveries.specs.Head.{Whole}
 use Rattle.deliveries.proofs.Heads.{limits}
 

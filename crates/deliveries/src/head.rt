@@ -91,6 +91,7 @@ impl From<FieldFault> for HeadFault {
 }
 
 // The head by its eleven fields alone.
+#[tactic(auto, using(crate::proofs::Heads::when_short, crate::proofs::Heads::when_broken, crate::proofs::Heads::no_day))]
 fn read_fields(bytes: &[u8]) -> Result<Head, HeadFault>
     ensures { MatchResult result (Whole bytes.now) (λ e. head_fault bytes.now ≡ Some e) }
 {
@@ -120,6 +121,7 @@ fn has_size(bytes: &[u8], size: u64) -> bool
 }
 
 // The head at the front of a buffer that holds a whole delivery, or the first fault.
+#[tactic(auto, using(crate::proofs::Heads::by_size, crate::proofs::Heads::refused, crate::proofs::Heads::small, crate::proofs::Heads::taken))]
 pub fn read_head(bytes: &[u8]) -> Result<Head, HeadFault>
     ensures kept { Decides (is_ok result) (Kept bytes.now) }
     ensures first { MatchResult result (λ h. (head_fault bytes.now ≡ None) × Bears bytes.now h) (λ e. head_fault bytes.now ≡ Some e) }

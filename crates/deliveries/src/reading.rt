@@ -42,6 +42,7 @@ pub struct Files<'a> {
     pub tables: Rows<'a>,
 }
 
+#[tactic(auto, using(crate::proofs::Heads::small))]
 pub(crate) fn files_in<'a>(bytes: &'a [u8], head: &Head) -> Files<'a>
     requires { Whole bytes.now head.now }
     ensures stations { RowsOf bytes.now 47 (value (columns 25 27 bytes.now)) result.stations }
@@ -90,6 +91,7 @@ fn check_rows(bytes: &[u8], head: &Head) -> Result<(), DeliveryFault>
 }
 
 // The head of a sound delivery, or the first fault of the buffer.
+#[tactic(auto, using(crate::proofs::Verdict::broken_head, crate::proofs::Verdict::kept_head, crate::proofs::Heads::whole))]
 pub(crate) fn check(bytes: &[u8]) -> Result<Head, DeliveryFault>
     ensures { MatchResult result (λ h. (delivery_fault bytes.now ≡ None) × Whole bytes.now h) (λ e. delivery_fault bytes.now ≡ Some e) }
 {

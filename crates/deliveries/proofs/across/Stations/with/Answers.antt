@@ -1,7 +1,5 @@
-use Rattle.std.proofs.Common.{sym, ap, ◌∙◌}
-use Rattle.std.specs.Bool.{then_some}
+use Rattle.std.proofs.Common.{sym, ◌∙◌}
 use Rattle.std.specs.Cmp.{nat_cmp_total}
-use Rattle.fields.specs.Flags.{stays}
 use Rattle.files.specs.Rows.{row_in}
 use Rattle.deliveries.proofs.Ends.{found, none_found}
 use Rattle.deliveries.proofs.across.Stations.with.Goals as goal
