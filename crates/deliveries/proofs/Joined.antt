@@ -1,5 +1,5 @@
 -- A series has no fault beside its stations exactly where it joins them.
-use Rattle.std.proofs.Common.{◌≡◌, ℕ, zero, suc, ◌<◌, Bool, true, false, cond, ◌&&◌, eqb, Some, None, Option, sym, refl, ap, ◌∙◌, arith}
+use Rattle.std.proofs.Common.{◌≡◌, ℕ, ◌<◌, Bool, true, false, cond, ◌&&◌, eqb, Some, None, Option, sym, refl, ap, ◌∙◌, MatchOption}
 use Rattle.std.specs.Option.{option_map}
 use Rattle.std.proofs.lemmas.Bool.{and_left, and_parts, eq-eqb, eqb-true, ne_eqb}
 use Rattle.fields.specs.Flags.{stays}
@@ -8,8 +8,8 @@ use Rattle.kinds.specs.declared.series.Series.{Series}
 use Rattle.kinds.specs.declared.station.Station.{Station}
 use Rattle.kinds.specs.Taking.{same_text}
 use Rattle.kinds.specs.Told.{text_same}
-use Rattle.files.specs.First.{at_index, first, or_else}
-use Rattle.files.proofs.Firsts.{first_some, some_none}
+use Rattle.files.specs.First.{first, or_else}
+use Rattle.files.proofs.Firsts.{first_says, first_some, some_none}
 use Rattle.deliveries.specs.declared.fault.AcrossFault.{AcrossFault}
 use Rattle.deliveries.specs.declared.fault.AcrossFault.TheVariants.{OtherDesignation}
 use Rattle.deliveries.specs.Across.{Joins, end_fault, ends_fault, series_fault, stands, station_of}
@@ -17,19 +17,6 @@ use Rattle.deliveries.specs.Across.{Joins, end_fault, ends_fault, series_fault, 
 pub or_none : {A : Type 0} (a b : Option A) → or_else a b ≡ None → (a ≡ None) × (b ≡ None)
 or_none (Some x) b e = absurd (some_none x e)
 or_none None b e = (refl, e)
-
--- what stands at the first index
-first_at : {A : Type 0} (f : ℕ → Option A) (n : ℕ) (p : ℕ × A) → first f n ≡ Some p → (p.0 < n) × (f p.0 ≡ Some p.1)
-first_at f zero p e = absurd (some_none p (sym e))
-first_at f (suc n) p e = go (first f n) (f n) refl (first_at f n p) e
-  where
-    go : (a : Option (ℕ × _)) (b : Option _) → f n ≡ b → (a ≡ Some p → (p.0 < n) × (f p.0 ≡ Some p.1)) → or_else a (at_index n b) ≡ Some p → (p.0 < suc n) × (f p.0 ≡ Some p.1)
-    go (Some x) b q ih e = let h = ih e in (omega (arith, h.0), h.1)
-    go None None q ih e = absurd (some_none p (sym e))
-    go None (Some y) q ih e =
-        let k : n ≡ p.0 = cc in
-        let v : y ≡ p.1 = cc in
-        (omega (arith, k), ap f (sym k) ∙ (q ∙ ap Some v))
 
 module _ (station : ℕ → Station) (g : ℕ) where
   stood : (x y : Station) (t : Bool) → cond t (Some x) None ≡ Some y → (t ≡ true) × (x ≡ y)
@@ -41,17 +28,18 @@ module _ (station : ℕ → Station) (g : ℕ) where
   fits false e n = refl
 
   joins_when_none : (e : End) (a b n : ℕ) → end_fault e a b n (station_of station g e.station) ≡ None → Joins station g e
-  joins_when_none e a b n none = go (first (stands station g e.station) g) refl none
+  joins_when_none e a b n none = go (first (stands station g e.station) g) (first_says (stands station g e.station) g) none
     where
-      go : (o : Option (ℕ × Station)) → first (stands station g e.station) g ≡ o → end_fault e a b n (option_map (λ p. p.1) o) ≡ None → Joins station g e
+      go : (o : Option (ℕ × Station)) →
+          MatchOption o ((k : ℕ) → k < g → stands station g e.station k ≡ None) (λ p. (p.0 < g) × (stands station g e.station p.0 ≡ Some p.1) × ((j : ℕ) → j < p.0 → stands station g e.station j ≡ None)) →
+          end_fault e a b n (option_map (λ p. p.1) o) ≡ None → Joins station g e
       go None q f = absurd (some_none _ f)
       go (Some p) q f =
-          let h = first_at (stands station g e.station) g p q in
-          let s = stood (station p.0) p.1 _ h.1 in
+          let s = stood (station p.0) p.1 _ q.1 in
           let both = and_parts (eqb (station p.0).number e.station) (stays (station p.0).key_flag) s.0 in
           record {
             at = p.0;
-            there = h.0;
+            there = q.0;
             code = eqb-true _ _ both.0;
             staying = both.1;
             designation = same_text e.designation _ (fits _ _ f) ∙ ap (λ x. x.told.designation) (sym s.1);

@@ -1,5 +1,5 @@
 -- The first fault of a delivery by those of its parts.
-use Rattle.std.proofs.Common.{◌≡◌, ℕ, false, List, is_some, is_ok, Some, None, Ok, Err, Decides, Option, Result, sym, refl, ap, ◌∙◌, MatchResult}
+use Rattle.std.proofs.Common.{◌≡◌, ℕ, true, false, List, is_some, Some, None, Decides, Option, sym, refl, ap, ◌∙◌}
 use Rattle.std.proofs.lemmas.Bool.{false≢true}
 use Rattle.kinds.specs.FareTable.{fare_table_meaning}
 use Rattle.kinds.specs.Series.{series_meaning}
@@ -68,9 +68,11 @@ no_fault bs w =
     kept_head bs None (none_when_kept bs w.head)
     (first_of_rows bs None None None None (ap (in_file 71) (sym g)) (ap (in_file 83) (sym s)) (ap (in_file 80) (sym p)) (ap beside (sym each)))
 
-pub decides_sound : {A : Type 0} (bs : List ℕ) (r : Result A DeliveryFault) → MatchResult r (λ _. delivery_fault bs ≡ None) (λ e. delivery_fault bs ≡ Some e) → Decides (is_ok r) (Sound bs)
-decides_sound bs (Ok x) none = (λ _. sound_delivery bs none, λ _. refl)
-decides_sound bs (Err e) fault = (λ z. absurd (false≢true z), λ w. absurd (some_none e (sym fault ∙ no_fault bs w)))
+pub taken : (bs : List ℕ) → delivery_fault bs ≡ None → Decides true (Sound bs)
+taken bs none = (λ _. sound_delivery bs none, λ _. refl)
+
+pub refused : (bs : List ℕ) (e : DeliveryFault) → delivery_fault bs ≡ Some e → Decides false (Sound bs)
+refused bs e fault = (λ x. absurd (false≢true x), λ w. absurd (some_none e (sym fault ∙ no_fault bs w)))
 
 no_some : {A : Type 0} (o : Option A) → is_some o ≡ false → o ≡ None
 no_some None e = refl

@@ -48,6 +48,7 @@ impl<'a> Delivery<'a> {
     }
 
     // Fills this place from a sound buffer; the first fault of another, and the place is as it was.
+    #[tactic(auto, using(crate::proofs::Verdict::taken, crate::proofs::Verdict::refused))]
     pub fn read(&mut self, bytes: &'a [u8]) -> Result<(), DeliveryFault>
         ensures first { MatchResult result (λ _. (delivery_fault bytes.now ≡ None) × (self.new.bytes.now ≡ bytes.now) × Bears bytes.now self.new.head) (λ e. (delivery_fault bytes.now ≡ Some e) × (self.new ≡ self.old)) }
         ensures sound { Decides (is_ok result) (Sound bytes.now) }
@@ -65,6 +66,7 @@ impl<'a> Delivery<'a> {
     }
 
     // The rows of its three files; as many of each as the head says.
+    #[tactic(auto, using(crate::proofs::Borne::bears, crate::proofs::Heads::whole, crate::proofs::Verdict::sound_when_read))]
     pub fn files(&self) -> Files<'a>
         ensures stations { RowsOf self.now.bytes.now 47 (value (columns 25 27 self.now.bytes.now)) result.stations }
         ensures series { RowsOf self.now.bytes.now (series_start self.now.bytes.now) (value (columns 28 30 self.now.bytes.now)) result.series }

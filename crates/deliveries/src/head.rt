@@ -15,6 +15,7 @@ use fields::rule::FieldType::Numeric;
 use fields::rule::Need::Mandatory;
 use fields::rule::{Content, Context, Field};
 use std::fmt;
+use std::ops::RangeInclusive;
 
 // The rows of one file: how many, and how long each is.
 #[derive(Clone, Copy)]
@@ -63,12 +64,12 @@ static NO_CONTEXT: Context = Context {
     key_flag: KeyFlag::NoAmendment,
 };
 
-fn extent_in(bytes: &[u8], rows: (u16, u16), length: (u16, u16)) -> Extent
-    ensures { rows.1 ≤ rows.0 + 7 → length.1 ≤ length.0 + 7 → result ≡ extent bytes.now rows.0 rows.1 length.0 length.1 }
+fn extent_in(bytes: &[u8], rows: RangeInclusive<u16>, length: RangeInclusive<u16>) -> Extent
+    ensures { rows.end ≤ rows.start + 7 → length.end ≤ length.start + 7 → result ≡ extent bytes.now rows.start rows.end length.start length.end }
 {
     Extent {
-        rows: number_in(bytes, rows.0, rows.1),
-        length: number_in(bytes, length.0, length.1),
+        rows: number_in(bytes, *rows.start(), *rows.end()),
+        length: number_in(bytes, *length.start(), *length.end()),
     }
 }
 
@@ -90,6 +91,7 @@ impl From<FieldFault> for HeadFault {
 }
 
 // The head by its eleven fields alone.
+#[tactic(auto, using(crate::proofs::Heads::when_short, crate::proofs::Heads::when_broken, crate::proofs::Heads::no_day))]
 fn read_fields(bytes: &[u8]) -> Result<Head, HeadFault>
     ensures { MatchResult result (Whole bytes.now) (λ e. head_fault bytes.now ≡ Some e) }
 {
@@ -101,9 +103,9 @@ fn read_fields(bytes: &[u8]) -> Result<Head, HeadFault>
         return Err(HeadFault::BrokenField(10));
     };
     Ok(Head {
-        stations: extent_in(bytes, (10, 14), (25, 27)),
-        series: extent_in(bytes, (15, 19), (28, 30)),
-        tables: extent_in(bytes, (20, 24), (31, 33)),
+        stations: extent_in(bytes, 10..=14, 25..=27),
+        series: extent_in(bytes, 15..=19, 28..=30),
+        tables: extent_in(bytes, 20..=24, 31..=33),
         supplier: number_in(bytes, 34, 37),
         first_day,
         version: number_in(bytes, 46, 47),
@@ -119,6 +121,7 @@ fn has_size(bytes: &[u8], size: u64) -> bool
 }
 
 // The head at the front of a buffer that holds a whole delivery, or the first fault.
+#[tactic(auto, using(crate::proofs::Heads::by_size, crate::proofs::Heads::refused, crate::proofs::Heads::small, crate::proofs::Heads::taken))]
 pub fn read_head(bytes: &[u8]) -> Result<Head, HeadFault>
     ensures kept { Decides (is_ok result) (Kept bytes.now) }
     ensures first { MatchResult result (λ h. (head_fault bytes.now ≡ None) × Bears bytes.now h) (λ e. head_fault bytes.now ≡ Some e) }

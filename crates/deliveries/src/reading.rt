@@ -1,15 +1,17 @@
 // Reading a whole buffer: its head, the rows of its three files, and its series beside its stations.
-ghost use Rattle.std.specs.Prelude.{◌≡◌, ◌+◌, ◌≤◌, length, drop, Some, None, MatchResult};
-ghost use Rattle.deliveries.specs.Delivery.{RowsOf, delivery_fault, lettered, rows_fault, series_start, supplier, table_start};
+ghost use Rattle.std.specs.Prelude.{◌≡◌, ◌≤◌, min, true, length, take, drop, is_ok, Some, None, MatchResult};
+ghost use Rattle.deliveries.specs.Delivery.{RowsOf, delivery_fault, in_file, rows_fault, series_start, supplier, table_start};
 ghost use Rattle.deliveries.specs.Head.{Whole};
 ghost use Rattle.fields.specs.Bytes.{columns, value};
-ghost use Rattle.files.specs.First.{or_else};
+ghost use Rattle.files.specs.Files.{Indexed, SoundRows, file_fault};
+ghost use Rattle.files.specs.Rows.{row_in};
+ghost use Rattle.indexes.specs.Places.{SortedPlaces};
+ghost use Rattle.std.specs.Cmp.{IsTotalOrder};
 ghost use Rattle.std.specs.Result.{result_err};
 
-use crate::across::check_across;
+use crate::across::Stations;
 use crate::fault::DeliveryFault;
 use crate::head::{Extent, HEAD_LENGTH, Head, read_head};
-use files::fault::FileFault;
 use files::reading::{MOST_ROWS, read_file};
 use files::rows::Rows;
 use indexes::Place;
@@ -32,16 +34,6 @@ fn rows_from<'a>(bytes: &'a [u8], start: usize, extent: &Extent, supplier: u32) 
     }
 }
 
-// A file's fault with the file's letter.
-fn in_letter(letter: char, read: Result<(), FileFault>) -> Result<(), DeliveryFault>
-    ensures { result_err result ≡ lettered letter (result_err read) }
-{
-    match read {
-        Ok(()) => Ok(()),
-        Err(fault) => Err(DeliveryFault::Row(letter, fault)),
-    }
-}
-
 // The rows of a delivery's three files.
 #[derive(Clone, Copy)]
 pub struct Files<'a> {
@@ -50,6 +42,7 @@ pub struct Files<'a> {
     pub tables: Rows<'a>,
 }
 
+#[tactic(auto, using(crate::proofs::Heads::small))]
 pub(crate) fn files_in<'a>(bytes: &'a [u8], head: &Head) -> Files<'a>
     requires { Whole bytes.now head.now }
     ensures stations { RowsOf bytes.now 47 (value (columns 25 27 bytes.now)) result.stations }
@@ -65,43 +58,44 @@ pub(crate) fn files_in<'a>(bytes: &'a [u8], head: &Head) -> Files<'a>
     }
 }
 
-// The first fault of the rows, and then of the series beside the stations. There is room for the places of 4096 rows.
-fn check_rows(
-    bytes: &[u8],
-    head: &Head,
-    stations: &mut [Place<u32>],
-    others: &mut [Place<u32>],
+// Reads a file, and answers its first fault with the file's letter.
+fn check_file<K: Kind>(
+    rows: &Rows<'_>,
+    count: u32,
+    places: &mut [Place<K::Number>],
 ) -> Result<(), DeliveryFault>
-    requires whole { Whole bytes.now head.now }
-    requires room { length stations.old ≡ 4096 }
-    requires more_room { length others.old ≡ 4096 }
+    ensures first { result_err result ≡ in_file K.Kind.LETTER (file_fault K.Kind.meaning rows.now.supplier (row_in rows.now) (min count (min (length places.old) 4096))) }
+    ensures sound { is_ok result ≡ true → SoundRows K.Kind.meaning rows.now.supplier (row_in rows.now) (min count (min (length places.old) 4096)) }
+    ensures index { is_ok result ≡ true → count ≤ min (length places.old) 4096 → Indexed K.Kind.meaning rows.now.supplier (row_in rows.now) count (take count places.new) × ((o : IsTotalOrder K.Number.Ord.cmp) → SortedPlaces o (take count places.new)) }
+{
+    read_file::<K>(rows, count, places).map_err(|fault| DeliveryFault::Row(K::LETTER, fault))
+}
+
+// The first fault of the rows, and then of the series beside the stations.
+fn check_rows(bytes: &[u8], head: &Head) -> Result<(), DeliveryFault>
+    requires { Whole bytes.now head.now }
     ensures { result_err result ≡ rows_fault bytes.now }
 {
+    let empty = Place { number: 0, row: 0 };
+    let mut stations = [empty; MOST_ROWS];
+    let mut others = [empty; MOST_ROWS];
     let files = files_in(bytes, head);
-    in_letter(
-        Station::LETTER,
-        read_file::<Station>(&files.stations, head.stations.rows, stations),
-    )?;
-    in_letter(
-        Series::LETTER,
-        read_file::<Series>(&files.series, head.series.rows, others),
-    )?;
-    in_letter(
-        FareTable::LETTER,
-        read_file::<FareTable>(&files.tables, head.tables.rows, others),
-    )?;
-    let places = &stations[0..head.stations.rows as usize];
-    check_across(&files.stations, places, &files.series, head.series.rows)
+    check_file::<Station>(&files.stations, head.stations.rows, &mut stations)?;
+    check_file::<Series>(&files.series, head.series.rows, &mut others)?;
+    check_file::<FareTable>(&files.tables, head.tables.rows, &mut others)?;
+    let stations = Stations {
+        rows: files.stations,
+        places: &stations[..head.stations.rows as usize],
+    };
+    stations.check_across(&files.series, head.series.rows)
 }
 
 // The head of a sound delivery, or the first fault of the buffer.
+#[tactic(auto, using(crate::proofs::Verdict::broken_head, crate::proofs::Verdict::kept_head, crate::proofs::Heads::whole))]
 pub(crate) fn check(bytes: &[u8]) -> Result<Head, DeliveryFault>
     ensures { MatchResult result (λ h. (delivery_fault bytes.now ≡ None) × Whole bytes.now h) (λ e. delivery_fault bytes.now ≡ Some e) }
 {
     let head = read_head(bytes)?;
-    let empty = Place { number: 0, row: 0 };
-    let mut stations = [empty; MOST_ROWS];
-    let mut others = [empty; MOST_ROWS];
-    check_rows(bytes, &head, &mut stations, &mut others)?;
+    check_rows(bytes, &head)?;
     Ok(head)
 }

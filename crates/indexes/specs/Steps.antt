@@ -1,10 +1,15 @@
 -- What a look at two neighbours, and at the place at an index, finds.
-use Rattle.std.specs.Prelude.{◌≡◌, ℕ, ◌-◌, ◌<◌, List, length, get_or, slice_index_or}
+use Rattle.std.specs.Prelude.{◌≡◌, ℕ, ◌-◌, ◌<◌, Bool, ◌&&◌, List, length, get_or, nat_lt, slice_index_or}
 use Rattle.std.specs.declared.cmp.Ordering.{Ordering}
 use Rattle.std.specs.Cmp.{IsTotalOrder}
+use Rattle.std.specs.Ordering.{is_eq}
 use Rattle.std.specs.List.{HoldsAt}
 use Rattle.indexes.specs.declared.Place.{Place}
 use Rattle.indexes.specs.Places.{Follows, SameNumber}
+
+-- whether q has p's number, in a later row
+abbrev pub is_repeat : {N : Type 0} → (N → N → Ordering) → Place N → Place N → Bool
+is_repeat R p q = nat_lt p.row q.row && is_eq (R p.number q.number)
 
 module _ {N : Type 0} {R : N → N → Ordering} (o : IsTotalOrder R) where
   -- below high, the place in row k follows the one that stands just before it

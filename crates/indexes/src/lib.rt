@@ -1,9 +1,9 @@
 // The numbers of a file's rows, each with its row: which row has a number, and whether a number comes twice.
 #![tactic(auto)]
 
-ghost use Rattle.std.specs.Prelude.{◌≡◌, ℕ, min, length, Decides, MatchOption, slice_set};
-ghost use Rattle.indexes.specs.Places.{Follows, Least, Repeats, SortedPlaces, Stands};
-ghost use Rattle.indexes.specs.Steps.{RepeatsNext, StandsAt};
+ghost use Rattle.std.specs.Prelude.{◌≡◌, ℕ, length, MatchOption, slice_set};
+ghost use Rattle.indexes.specs.Places.{Least, Repeats, SortedPlaces, Stands};
+ghost use Rattle.indexes.specs.Steps.{RepeatsNext, StandsAt, is_repeat};
 ghost use Rattle.std.specs.Cmp.{IsTotalOrder};
 ghost use Rattle.std.specs.List.Sorted.{IsPermutation};
 
@@ -27,32 +27,21 @@ pub fn put<X: Copy>(xs: &mut [X], at: usize, x: X)
 
 // Whether the second place has the number of the first, in a later row.
 fn is_repeat<N: Ord>(before: &Place<N>, after: &Place<N>) -> bool
-    ensures { (o : IsTotalOrder N.Ord.cmp) → Decides result (Follows o before.now after.now) }
+    ensures { result ≡ is_repeat N.Ord.cmp before.now after.now }
 {
     before.row < after.row && before.number.cmp(&after.number).is_eq()
-}
-
-// The lower of two rows, or the second where there is no first.
-fn lower(least: Option<u32>, row: u32) -> u32
-    ensures { MatchOption least (result ≡ row) (λ k. result ≡ min k row) }
-{
-    match least {
-        Some(k) => k.min(row),
-        None => row,
-    }
 }
 
 // The least row whose place follows the one just before it. Among sorted places these are all the rows that repeat a number.
 fn least_repeat<N: Ord>(places: &[Place<N>]) -> Option<u32>
     ensures { (o : IsTotalOrder N.Ord.cmp) → Least (RepeatsNext o places.now (length places.now)) result }
 {
-    let mut least = None;
-    for i in 1..places.len() {
-        if is_repeat(&places[i - 1], &places[i]) {
-            least = Some(lower(least, places[i].row));
-        }
-    }
-    least
+    places
+        .iter()
+        .zip(places.iter().skip(1))
+        .filter(|(before, after)| is_repeat(before, after))
+        .map(|(_, after)| after.row)
+        .min()
 }
 
 // Sorts the places, and answers the first row whose number an earlier row has.
@@ -69,10 +58,10 @@ pub fn first_repeat<N: Ord + Copy>(places: &mut [Place<N>]) -> Option<u32>
 fn row_at<N: Ord>(places: &[Place<N>], i: usize, number: &N) -> Option<u32>
     ensures { (o : IsTotalOrder N.Ord.cmp) → MatchOption result ((k : ℕ) → StandsAt o places.now number.now i k → ⊥) (StandsAt o places.now number.now i) }
 {
-    match places.get(i) {
-        Some(place) if place.number.cmp(number).is_eq() => Some(place.row),
-        _ => None,
-    }
+    places
+        .get(i)
+        .filter(|place| place.number.cmp(number).is_eq())
+        .map(|place| place.row)
 }
 
 // The row of a number among sorted places: the first, if several rows have it.

@@ -144,6 +144,8 @@ impl Kind for FareTable {
 
     const GREATEST: u32 = 207;
 
+    ghost LETTER = { 80 };
+
     type Number = u32;
 
     type Told = FareTableTold;

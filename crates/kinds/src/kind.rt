@@ -22,6 +22,8 @@ pub trait Kind: Copy {
 
     const GREATEST: u32;
 
+    ghost LETTER: { ℕ };
+
     type Number: Ord + Copy;
 
     type Told: Copy;

@@ -200,6 +200,8 @@ impl Kind for Series {
 
     const GREATEST: u32 = 512;
 
+    ghost LETTER = { 83 };
+
     type Number = u32;
 
     type Told = SeriesTold;

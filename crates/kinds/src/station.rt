@@ -102,6 +102,8 @@ impl Kind for Station {
 
     const GREATEST: u32 = 512;
 
+    ghost LETTER = { 71 };
+
     type Number = u32;
 
     type Told = StationTold;

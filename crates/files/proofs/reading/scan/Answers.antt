@@ -1,23 +1,27 @@
-use Rattle.std.proofs.Common.{◌≡◌, ◌<◌, length, Some, None, sym, refl, ap, ◌∙◌, arith, below_more}
-use Rattle.files.specs.Files.{light_fault}
+use Rattle.std.proofs.Common.{◌≡◌, ◌+◌, ◌<◌, length, None, Some, Err, sym, refl, ap, ◌∙◌, subst, arith, below_more, rules, tests, MatchResult}
+use Rattle.std.proofs.lemmas.Result.{err_from_is_err_and}
+use Rattle.kinds.specs.Meaning.{reads}
+use Rattle.files.specs.Files.{judged, light_fault, told}
 use Rattle.files.specs.Steps.{Read}
 use Rattle.files.specs.Rows.{row_in}
+use Rattle.files.specs.declared.fault.RowFault.{RowFault}
+use Rattle.files.proofs.Firsts.{first_none, first_some}
 use Rattle.files.proofs.Scans.{key_more, light_none, light_some, noted_more, record_is}
 use Rattle.files.proofs.reading.scan.Goals as goal
 
-pub returns-in-Err : goal.returns-in-Err
-returns-in-Err g c =
+pub returns-in_err-map_err-clause-first : goal.returns-in_err-map_err-clause-first
+returns-in_err-map_err-clause-first g c =
     let m = g.K.Kind.meaning in
     let rows = c.args.rows.now in
+    let s = rows.supplier in
+    let row = row_in rows in
     let i = c.loop-i.i in
-    record {
-      scanned = record {
-        most = omega arith;
-        light = c.loop-i.invariant.1;
-        next = (c.loop-i-test.true, light_some m rows.supplier (row_in rows) i c.loop-i.before c.in-Err.fault c.loop-i.invariant.0 c.in-Err.ensures);
-      };
-      noted = c.loop-i.invariant.2;
-    }
+    let at : (x : RowFault) × (c.read_row.result ≡ Err x) × (c.in_err-map_err.field-0.0 ≡ record { row = i + 1; fault = x }) = search (rules, tests) in
+    let here : judged m c.loop-i.before (reads m s (row i)) ≡ Some at.0 =
+    subst (λ r. MatchResult r (λ _. Read m s (row i) c.loop-i.before c.read_row.new.into) (λ e. judged m c.loop-i.before (reads m s (row i)) ≡ Some e)) at.1 c.read_row.ensures in
+    let fault = err_from_is_err_and c.from_residual.result c.from_residual.ensures.1 in
+    fault.1 ∙ (ap Err (fault.2 ∙ at.2)
+    ∙ ap told (sym (first_some (light_fault m s row) c.args.count i at.0 c.loop-i-test.true (light_some m s row i c.loop-i.before at.0 c.loop-i.invariant.0 here) c.loop-i.invariant.1)))
 
 pub loop-i-preserved : goal.loop-i-preserved
 loop-i-preserved g c =
@@ -27,25 +31,16 @@ loop-i-preserved g c =
     let row = row_in rows in
     let i = c.loop-i.i in
     let r = c.read_row.new.into in
-    let read : Read m s (row i) c.loop-i.before r = c.in_default.ensures in
+    let read : Read m s (row i) c.loop-i.before r = search rules in
     let long : i < length c.loop-i.places = omega arith in
     let number = c.number.ensures ∙ ap m.number (sym (record_is m s row i r read.is_read)) in (
       ap Some c.order.ensures ∙ key_more m s row i r read.is_read,
       below_more (λ k. light_fault m s row k ≡ None) i c.loop-i.invariant.1 (light_none m s row i c.loop-i.before r c.loop-i.invariant.0 read),
-      noted_more m s row i c.loop-i.places c.put.new.xs c.number.result long number c.put.ensures c.loop-i.invariant.2,
+      noted_more m s row i c.loop-i.places _ c.number.result long number refl c.loop-i.invariant.2,
     )
 
-pub loop-i-init : goal.loop-i-init
-loop-i-init g c = (refl, λ k l. absurd (omega arith), λ k d l. absurd (omega arith))
-
-pub returns : goal.returns
-returns g c =
-    let all : c.loop-i.i ≡ length c.args.places.now = omega arith in
-    record {
-      scanned = record {
-        most = omega arith;
-        light = λ k l. c.loop-i.invariant.1 k (omega arith);
-        next = omega arith;
-      };
-      noted = λ k d l. c.loop-i.invariant.2 k d (omega arith);
-    }
+pub returns-clause-first : goal.returns-clause-first
+returns-clause-first g c =
+    let m = g.K.Kind.meaning in
+    let rows = c.args.rows.now in
+    sym (ap told (first_none (light_fault m rows.supplier (row_in rows)) c.args.count (λ k l. c.loop-i.invariant.1 k (omega arith))))
