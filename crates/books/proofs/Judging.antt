@@ -32,12 +32,6 @@ judged_is (Err e) f entries room h = ap (λ o. judged o entries room) (sym h)
 rows_are : (bs : List ℕ) (start len : ℕ) (rows : Rows) → RowsOf bs start len rows → row_in rows ≡ (λ k. row_of (drop start bs) len k)
 rows_are bs start len rows of = λ i k. row_of (of.bytes i) (of.length_is i) k
 
--- the first u entries of a run after a file
-pub record DoneFile {R W N K : Type 0} (m : Meaning R W N K) (s : ℕ) (row : ℕ → List ℕ) (es : List (Entry N W)) (year count : ℕ) (after : List (Entry N W)) (u : ℕ) : Type 0 where
-  pub within : u ≤ length after
-  pub ascends : Ascending m.numbers (take u after)
-  pub shuffled : IsPermutation (entries_after m s (record_at m s row) es year count) (take u after)
-
 module _ {R W N K : Type 0} (m : Meaning R W N K) (bs : List ℕ) (start len : ℕ) (rows : Rows) (of : RowsOf bs start len rows) where
   pub file_judged : (es : List (Entry N W)) (y year n count room : ℕ) (r : Result Bool RegisterFault) → n ≡ count → y ≡ year →
       Judged m rows.supplier (record_at m rows.supplier (row_in rows)) es y n room r →
@@ -77,17 +71,15 @@ module _ {R W N K : Type 0} (m : Meaning R W N K) (bs : List ℕ) (start len : �
       (subst₃ (λ s row c. Entered m s (record_at m s row) es y c after) of.supplier_is (rows_are bs start len rows of) is-count h)
 
   -- a file that the register took, as the bytes have it
-  pub file_done : (P : N → N → Ordering) (run after : List (Entry N W)) (used u y year count : ℕ) (ps : List (Place N)) → y ≡ year → length ps ≡ count →
+  pub file_done : (P : N → N → Ordering) (run after : List (Entry N W)) (used y year count : ℕ) (ps : List (Place N)) → y ≡ year → length ps ≡ count →
       used ≤ length run → Ascending m.numbers (take used run) → Index m (supplier bs) (λ k. row_of (drop start bs) len k) P ps →
       SoundRows m (supplier bs) (λ k. row_of (drop start bs) len k) count →
       register_fault m (supplier bs) (record_at m (supplier bs) (λ k. row_of (drop start bs) len k)) (take used run) year count ≡ None →
       length (entries_after m (supplier bs) (record_at m (supplier bs) (λ k. row_of (drop start bs) len k)) (take used run) year count) ≤ length run →
-      (Enterable m rows.supplier (row_in rows) P run used y ps → (u ≤ length after) × Entered m rows.supplier (record_at m rows.supplier (row_in rows)) (take used run) y (length ps) (take u after)) →
-      DoneFile m (supplier bs) (λ k. row_of (drop start bs) len k) (take used run) year count after u
-  file_done P run after used u y year count ps is-year is-count within up index sound none room enters =
-      let e = enters (may_enter P run used y year count ps is-year is-count within up index sound none room) in
-      let d = file_entered (take used run) (take u after) y year (length ps) count is-year is-count e.1 in
-      record { within = e.0; ascends = d.ascending; shuffled = d.shuffled }
+      (Enterable m rows.supplier (row_in rows) P run used y ps → Entered m rows.supplier (record_at m rows.supplier (row_in rows)) (take used run) y (length ps) after) →
+      IsPermutation (entries_after m (supplier bs) (record_at m (supplier bs) (λ k. row_of (drop start bs) len k)) (take used run) year count) after
+  file_done P run after used y year count ps is-year is-count within up index sound none room enters =
+      (file_entered (take used run) after y year (length ps) count is-year is-count (enters (may_enter P run used y year count ps is-year is-count within up index sound none room))).shuffled
 
 -- what no fault says of the line, the files and the runs
 pub record Clear (line : Option LineFault) (g s p : Option RegisterFault) (a b c x y z : ℕ) : Type 0 where

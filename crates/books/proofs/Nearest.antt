@@ -1,15 +1,17 @@
 -- The series that join finds: only a supplier's own count, and none that joins the stations comes before it.
-use Rattle.std.proofs.Common.{◌≡◌, ℕ, zero, suc, ◌+◌, ◌<◌, ◌≤◌, Bool, true, false, cond, ◌⊎◌, List, [], ◌∷◌, length, get_or, take, Some, None, fold, filter, Option, sym, refl, ap, ◌∙◌, subst, inl, inr, ⊎_elim, arith, MatchOption}
+use Rattle.std.proofs.Common.{◌≡◌, ℕ, zero, suc, ◌<◌, ◌≤◌, Bool, true, false, cond, ◌⊎◌, List, [], ◌∷◌, length, get_or, Some, None, fold, filter, Option, Ordering, Less, Equal, Greater, sym, refl, ap, ◌∙◌, subst, inl, inr, ⊎_elim, arith, MatchOption}
 use Rattle.std.specs.Option.{option_map}
-use Rattle.std.proofs.lemmas.List.Sums.{fold_more as folded_more}
-use Rattle.std.proofs.lemmas.Bool.{and_from, and_parts, cases_Bool, cases_lt, cases_order, eq-eqb, eqb-true, lt-ltb, ltb-true, or_cases, or_left, or_right, true≢false}
+use Rattle.std.specs.Cmp.{ranks}
+use Rattle.std.specs.List.{cons_option, filter_map, reduce}
+use Rattle.std.specs.Ordering.{MatchOrdering, min_by_ordering, nat_cmp, ordering_then}
+use Rattle.std.proofs.lemmas.Bool.{and_from, and_parts, cases_Bool, cases_lt, cases_order, cond-false, cond-true, eq-eqb, eqb-true, lt-ltb, ltb-true, or_cases, or_left, or_right, true≢false}
 use Rattle.files.proofs.Firsts.{some_none}
 use Rattle.kinds.specs.declared.series.SeriesTold.{SeriesTold}
 use Rattle.registers.specs.declared.entry.Entry.{Entry}
 use Rattle.registers.specs.declared.entry.Standing.{Standing}
 use Rattle.registers.specs.declared.entry.Standing.TheVariants.{Live, Retired}
 use Rattle.registers.specs.Entries.{is_live, is_own}
-use Rattle.books.specs.Join.{Joining, Nearest, better, comes_first, joins, with_own, with_series}
+use Rattle.books.specs.Join.{Joining, Nearest, better, comes_first, joins, series_between, with_own, with_series}
 
 pub folded_own : (s a b : ℕ) (es : List (Entry ℕ SeriesTold)) (x : Option (ℕ × ℕ)) → fold (with_own s a b) x es ≡ fold (with_series a b) x (filter (is_own s) es)
 folded_own s a b [] x = refl
@@ -19,10 +21,6 @@ folded_own s a b (e ∷ es) x = go (is_own s e) (folded_own s a b es)
         fold (with_own s a b) (cond t (with_series a b x e) x) es ≡ fold (with_series a b) x (cond t (e ∷ filter (is_own s) es) (filter (is_own s) es))
     go true ih = ih (with_series a b x e)
     go false ih = ih x
-
--- one more element of a fold
-pub fold_more : {X Y : Type 0} (f : Y → X → Y) (a : Y) (xs : List X) (i : ℕ) (d : X) (b r : Y) → i < length xs → b ≡ fold f a (take i xs) → r ≡ f b (get_or xs i d) → r ≡ fold f a (take (i + 1) xs)
-fold_more f a xs i d b r l p q = q ∙ (ap (λ w. f w (get_or xs i d)) p ∙ sym (folded_more f a xs i d l))
 
 -- ---- route numbers and numbers
 
@@ -82,6 +80,52 @@ better_is (Some y) p k e = go (comes_first p y) e
     go : (b : Bool) → cond b p y ≡ k → (Some y ≡ Some k) ⊎ (p ≡ k)
     go true e = inr e
     go false e = inl (ap Some e)
+
+-- what `min` picks of two is the better one
+picks : (y x : ℕ × ℕ) → min_by_ordering (ordering_then (nat_cmp y.0 x.0) (nat_cmp y.1 x.1)) y x ≡ better (Some y) x
+picks y x = go (nat_cmp y.0 x.0) (ranks y.0 x.0) (nat_cmp y.1 x.1) (ranks y.1 x.1)
+  where
+    go : (p : Ordering) → MatchOrdering p (y.0 < x.0) (y.0 ≡ x.0) (x.0 < y.0) → (q : Ordering) → MatchOrdering q (y.1 < x.1) (y.1 ≡ x.1) (x.1 < y.1) →
+        min_by_ordering (ordering_then p q) y x ≡ cond (comes_first x y) x y
+    go Less h q k = sym (cond-false (comes_first x y) x y (not_earlier x y (⊎_elim (λ l. omega arith) (λ l. omega arith))))
+    go Equal h Less k = sym (cond-false (comes_first x y) x y (not_earlier x y (⊎_elim (λ l. omega arith) (λ l. omega arith))))
+    go Equal h Equal k = sym (cond-false (comes_first x y) x y (not_earlier x y (⊎_elim (λ l. omega arith) (λ l. omega arith))))
+    go Equal h Greater k = sym (cond-true (comes_first x y) x y (or_right _ _ (and_from _ _ (eq-eqb x.0 y.0 (sym h)) (lt-ltb x.1 y.1 k))))
+    go Greater h q k = sym (cond-true (comes_first x y) x y (or_left _ _ (lt-ltb x.0 y.0 h)))
+
+-- the least of the series between the stations, as a fold over the entries
+module _ (a b : ℕ) where
+  abbrev pub least : ℕ × ℕ → ℕ × ℕ → ℕ × ℕ
+  least y x = min_by_ordering (ordering_then (nat_cmp y.0 x.0) (nat_cmp y.1 x.1)) y x
+
+  least_from : (y : ℕ × ℕ) (es : List (Entry ℕ SeriesTold)) → Some (fold least y (filter_map (series_between a b) es)) ≡ fold (with_series a b) (Some y) es
+  least_from y [] = refl
+  least_from y (e ∷ es) = go e.standing (λ z. least_from z es)
+    where
+      pick : (p : ℕ × ℕ) (j : Bool) → ((z : ℕ × ℕ) → Some (fold least z (filter_map (series_between a b) es)) ≡ fold (with_series a b) (Some z) es) →
+          Some (fold least y (cons_option (cond j (Some p) None) (filter_map (series_between a b) es))) ≡
+          fold (with_series a b) (cond j (Some (better (Some y) p)) (Some y)) es
+      pick p false ih = ih y
+      pick p true ih = ih (least y p) ∙ ap (λ w. fold (with_series a b) (Some w) es) (picks y p)
+
+      go : (st : Standing SeriesTold) → ((z : ℕ × ℕ) → Some (fold least z (filter_map (series_between a b) es)) ≡ fold (with_series a b) (Some z) es) →
+          Some (fold least y (filter_map (series_between a b) ((record { id = e.id; standing = st }) ∷ es))) ≡ fold (with_series a b) (with_series a b (Some y) (record { id = e.id; standing = st })) es
+      go (Retired n) ih = ih y
+      go (Live t) ih = pick (t.route_number, e.id.number) (joins a b t) ih
+
+  pub least_is : (es : List (Entry ℕ SeriesTold)) → reduce least (filter_map (series_between a b) es) ≡ fold (with_series a b) None es
+  least_is [] = refl
+  least_is (e ∷ es) = go e.standing (least_is es)
+    where
+      pick : (p : ℕ × ℕ) (j : Bool) → reduce least (filter_map (series_between a b) es) ≡ fold (with_series a b) None es →
+          reduce least (cons_option (cond j (Some p) None) (filter_map (series_between a b) es)) ≡ fold (with_series a b) (cond j (Some p) None) es
+      pick p false ih = ih
+      pick p true ih = least_from p es
+
+      go : (st : Standing SeriesTold) → reduce least (filter_map (series_between a b) es) ≡ fold (with_series a b) None es →
+          reduce least (filter_map (series_between a b) ((record { id = e.id; standing = st }) ∷ es)) ≡ fold (with_series a b) (with_series a b None (record { id = e.id; standing = st })) es
+      go (Retired n) ih = ih
+      go (Live t) ih = pick (t.route_number, e.id.number) (joins a b t) ih
 
 -- ---- the fold
 

@@ -1,33 +1,39 @@
 -- Where a supplier's line stands.
-use Rattle.std.proofs.Common.{◌≡◌, ℕ, zero, suc, ◌+◌, ◌-◌, ◌<◌, ◌≤◌, max, Bool, true, false, cond, not, ◌&&◌, eqb, leb, List, [], ◌∷◌, ◌++◌, length, get_or, take, set, is_some, Some, None, Option, sym, refl, ap, ◌∙◌, subst, ⊎_elim, arith}
+use Rattle.std.proofs.Common.{◌≡◌, ℕ, zero, suc, ◌+◌, ◌-◌, ◌<◌, ◌≤◌, max, Bool, true, false, cond, not, ◌&&◌, eqb, leb, ltb, List, [], ◌∷◌, ◌++◌, length, take, set, is_some, Some, None, Option, sym, refl, ap, ◌∙◌, ⊎_elim, arith, position}
+use Rattle.std.specs.List.{find, position_or_len}
+use Rattle.std.specs.Option.{unwrap_or}
+use Rattle.std.proofs.lemmas.List.Recursion.{is_position_or_len}
 use Rattle.std.proofs.lemmas.List.{length-take, take_more_set}
-use Rattle.std.proofs.lemmas.Bool.{cases_lt, cond-false, cond-true, leb-false}
+use Rattle.std.proofs.lemmas.Bool.{cases_lt, leb-false, ltb-false}
 use Rattle.deliveries.specs.declared.head.Head.{Head}
 use Rattle.files.proofs.Firsts.{some_none}
 use Rattle.books.specs.declared.fault.LineFault.{LineFault}
 use Rattle.books.specs.declared.fault.LineFault.TheVariants.{TooManySuppliers, DoesNotFollow, NoReceiptLeft}
 use Rattle.books.specs.declared.lines.Line.{Line}
-use Rattle.books.specs.Lines.{follows, judged_line, line_fault, line_of, noted, place}
+use Rattle.books.specs.Lines.{follows, judged_line, line_after, line_fault, line_of, noted, place}
 
-pub place_at : (ls : List Line) (s i : ℕ) (d : Line) → i < length ls → eqb (get_or ls i d).supplier s ≡ true → ((k : ℕ) → k < i → eqb (get_or ls k d).supplier s ≡ false) → place ls s ≡ i
-place_at [] s i d l e before = absurd (omega arith)
-place_at (x ∷ ls) s zero d l e before = cond-true (eqb x.supplier s) _ _ e
-place_at (x ∷ ls) s (suc i) d l e before =
-    cond-false (eqb x.supplier s) _ _ (before 0 (omega arith)) ∙ ap suc (place_at ls s i d (omega arith) e (λ k q. before (suc k) (omega arith)))
-
-pub place_none : (ls : List Line) (s : ℕ) → ((k : ℕ) (d : Line) → k < length ls → eqb (get_or ls k d).supplier s ≡ false) → place ls s ≡ length ls
-place_none [] s h = refl
-place_none (x ∷ ls) s h = cond-false (eqb x.supplier s) _ _ (h 0 x (omega arith)) ∙ ap suc (place_none ls s (λ k d l. h (suc k) d (omega arith)))
-
--- the line at the place, if there is one
-pub line_at : (ls : List Line) (s : ℕ) (d : Line) → place ls s < length ls → line_of ls s ≡ Some (get_or ls (place ls s) d)
-line_at [] s d l = absurd (omega arith)
-line_at (x ∷ ls) s d l = go (eqb x.supplier s) refl l (line_at ls s d)
+pub place_bound : (ls : List Line) (s : ℕ) → place ls s ≤ length ls
+place_bound [] s = omega arith
+place_bound (x ∷ ls) s = go (eqb x.supplier s) (place_bound ls s)
   where
-    go : (b : Bool) → eqb x.supplier s ≡ b → cond b 0 (suc (place ls s)) < suc (length ls) → (place ls s < length ls → line_of ls s ≡ Some (get_or ls (place ls s) d)) →
-        cond b (Some x) (line_of ls s) ≡ Some (get_or (x ∷ ls) (cond b 0 (suc (place ls s))) d)
-    go true e l ih = refl
-    go false e l ih = ih (omega arith)
+    go : (b : Bool) → place ls s ≤ length ls → cond b 0 (suc (place ls s)) ≤ suc (length ls)
+    go true h = omega arith
+    go false h = omega (arith, h)
+
+-- the place that code finds, or the next one
+pub place_or : (ls : List Line) (s n : ℕ) → n ≡ length ls → unwrap_or (position (λ l. eqb l.supplier s) ls) n ≡ place ls s
+place_or ls s n is =
+    let same : place ls s ≡ position_or_len (λ l. eqb l.supplier s) ls = is_position_or_len (λ ls. place ls s) (λ l. eqb l.supplier s) refl (λ x xs. (let e : suc (place xs s) ≡ 1 + place xs s = omega arith in ap (cond (eqb x.supplier s) 0) e)) ls in
+    go (ltb (position_or_len (λ l. eqb l.supplier s) ls) (length ls)) refl same
+  where
+    go : (b : Bool) → ltb (position_or_len (λ l. eqb l.supplier s) ls) (length ls) ≡ b → place ls s ≡ position_or_len (λ l. eqb l.supplier s) ls →
+        unwrap_or (cond b (Some (position_or_len (λ l. eqb l.supplier s) ls)) None) n ≡ place ls s
+    go true e same = sym same
+    go false e same = omega (arith, is, same, place_bound ls s, ltb-false (position_or_len (λ l. eqb l.supplier s) ls) (length ls) e)
+
+pub found_line : (ls : List Line) (s : ℕ) → find (λ l. eqb l.supplier s) ls ≡ line_of ls s
+found_line [] s = refl
+found_line (x ∷ ls) s = ap (cond (eqb x.supplier s) (Some x)) (found_line ls s)
 
 pub no_line : (ls : List Line) (s : ℕ) → length ls ≤ place ls s → line_of ls s ≡ None
 no_line [] s l = refl
@@ -80,20 +86,6 @@ receipt_left ls given h none = go (not (is_some (line_of ls h.supplier)) && leb 
     go false true false q e = leb-false 999999 given q
     go false false c q e = absurd (some_none _ e)
 
--- as code has it, over the front of an array
-module _ (xs : List Line) (used given at : ℕ) (h : Head) (few : used ≤ 16) (within : used ≤ length xs) (none : line_fault (take used xs) given h ≡ None)
-    (is : at ≡ place (take (used - 0) xs) h.supplier) (bound : at ≤ length (take (used - 0) xs)) where
-  pub at_is : at ≡ place (take used xs) h.supplier
-  at_is = let all : used - 0 ≡ used = omega arith in is ∙ ap (λ n. place (take n xs) h.supplier) all
-
-  pub at_bound : at ≤ length (take used xs)
-  at_bound = let all : used - 0 ≡ used = omega arith in subst (λ n. at ≤ length (take n xs)) all bound
-
-  pub at_below : at < 16
-  at_below =
-      let long : length (take used xs) ≤ 16 = omega (arith, length-take used xs) in
-      omega (arith, at_is, place_below (take used xs) given h long none (omega (arith, at_is, at_bound)))
-
 take_set : {X : Type 0} (n i : ℕ) (xs : List X) (x : X) → i < n → take n (set xs i x) ≡ set (take n xs) i x
 take_set zero i xs x l = absurd (omega arith)
 take_set (suc n) i [] x l = refl
@@ -101,7 +93,7 @@ take_set (suc n) zero (y ∷ ys) x l = refl
 take_set (suc n) (suc i) (y ∷ ys) x l = ap (λ r. y ∷ r) (take_set n i ys x (omega arith))
 
 -- one line of the array is changed
-pub noted_is : (xs : List Line) (used at : ℕ) (l : Line) → used ≤ length xs → at ≡ place (take used xs) l.supplier → at ≤ length (take used xs) → at < length xs →
+noted_is : (xs : List Line) (used at : ℕ) (l : Line) → used ≤ length xs → at ≡ place (take used xs) l.supplier → at ≤ length (take used xs) → at < length xs →
     take (max used (at + 1)) (set xs at l) ≡ noted (take used xs) l
 noted_is xs used at l within is bound room = ⊎_elim old new (cases_lt at used)
   where
@@ -120,3 +112,25 @@ noted_is xs used at l within is bound room = ⊎_elim old new (cases_lt at used)
         let size : max used (at + 1) ≡ at + 1 = omega arith in
         ap (λ n. take n (set xs at l)) size
         ∙ (take_more_set xs at l room ∙ (ap (λ n. take n xs ++ (l ∷ [])) here ∙ sym (noted_push (take used xs) l (omega (arith, is, long)))))
+
+-- as code has it, over the front of an array
+module _ (xs : List Line) (used given at : ℕ) (h : Head) (few : used ≤ 16) (long : length xs ≡ 16) (none : line_fault (take used xs) given h ≡ None)
+    (o : Option ℕ) (or_next : at ≡ unwrap_or o used) (found : o ≡ position (λ l. eqb l.supplier h.supplier) (take (used - 0) xs)) where
+  front : length (take used xs) ≡ used
+  front = length-take used xs ∙ omega (arith, few, long)
+
+  at_is : at ≡ place (take used xs) h.supplier
+  at_is =
+      let all : used - 0 ≡ used = omega arith in
+      or_next
+      ∙ (ap (λ q. unwrap_or q used) (found ∙ ap (λ n. position (λ l. eqb l.supplier h.supplier) (take n xs)) all)
+      ∙ place_or (take used xs) h.supplier used (sym front))
+
+  at_bound : at ≤ length (take used xs)
+  at_bound = omega (arith, at_is, place_bound (take used xs) h.supplier)
+
+  pub at_below : at < 16
+  at_below = omega (arith, at_is, place_below (take used xs) given h (omega (arith, front, few)) none (omega (arith, at_is, at_bound)))
+
+  pub noted_at : (n : ℕ) → n ≡ max used (at + 1) → take n (set xs at (line_after h)) ≡ noted (take used xs) (line_after h)
+  noted_at n is = ap (λ n. take n (set xs at (line_after h))) is ∙ noted_is xs used at (line_after h) (omega (arith, few, long)) at_is at_bound (omega (arith, at_below, long))

@@ -8,6 +8,10 @@ use Rattle.books.specs.Lines.{SingleLines, noted}
 alike : Line → Line → Bool
 alike x y = eqb x.supplier y.supplier
 
+pub none_single : SingleLines []
+unfolding IsDistinct
+none_single = tt
+
 -- what holds of the lines and of the new one holds of all lines after
 noted_all : (P : Line → Type 0) (ls : List Line) (l : Line) → AllByRecursion P ls → P l → AllByRecursion P (noted ls l)
 noted_all P [] l h p = (p, tt)

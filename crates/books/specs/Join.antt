@@ -46,3 +46,7 @@ abbrev pub Nearest : List (Entry ℕ SeriesTold) → ℕ → ℕ → ℕ → Opt
 Nearest es s a b r =
     MatchOption r ((route number : ℕ) → Joining es s a b route number → ⊥)
     (λ n. (route : ℕ) × Joining es s a b route n × ((other m : ℕ) → Joining es s a b other m → comes_first (other, m) (route, n) ≡ false))
+
+-- the route number and the number of a live series that joins the stations
+abbrev pub series_between : ℕ → ℕ → Entry ℕ SeriesTold → Option (ℕ × ℕ)
+series_between a b e = elim e.standing [ Live t ↦ cond (joins a b t) (Some (t.route_number, e.id.number)) None | Retired y ↦ None ]

@@ -25,10 +25,7 @@ use registers::register::Register;
 fn in_file(letter: char, checked: Result<bool, RegisterFault>) -> Result<bool, BookFault>
     ensures { result ≡ lettered letter checked }
 {
-    match checked {
-        Ok(fits) => Ok(fits),
-        Err(fault) => Err(BookFault::Entry(letter, fault)),
-    }
+    checked.map_err(|fault| BookFault::Entry(letter, fault))
 }
 
 fn check_room(letter: char, fits: bool) -> Result<(), BookFault>
@@ -124,23 +121,6 @@ impl<'a> Book<'a> {
         self.lines.note(&head)
     }
 
-    // Admits a delivery, with room for the places of its rows' numbers.
-    fn admit_by(
-        &mut self,
-        delivery: &Delivery<'_>,
-        stations: &mut [Place<u32>],
-        series: &mut [Place<u32>],
-        tables: &mut [Place<u32>],
-    ) -> Result<u32, BookFault>
-        requires stations { length stations.old ≡ station_count delivery.now.bytes.now }
-        requires series { length series.old ≡ series_count delivery.now.bytes.now }
-        requires tables { length tables.old ≡ table_count delivery.now.bytes.now }
-        ensures { MatchResult result (λ n. (book_fault (state_of self.old) delivery.now.head delivery.now.bytes.now ≡ None) × (n ≡ (state_of self.new).receipts) × Admitted (state_of self.old) delivery.now.head delivery.now.bytes.now (state_of self.new)) (λ e. (book_fault (state_of self.old) delivery.now.head delivery.now.bytes.now ≡ Some e) × (self.new ≡ self.old)) }
-    {
-        self.judge(delivery, stations, series, tables)?;
-        Ok(self.enter(delivery, stations, series, tables))
-    }
-
     // Admits a sound delivery and answers the next receipt; the first fault of another, and the book is as it was.
     pub fn admit(&mut self, delivery: &Delivery<'_>) -> Result<u32, BookFault>
         ensures { MatchResult result (λ n. (book_fault (state_of self.old) delivery.now.head delivery.now.bytes.now ≡ None) × (n ≡ (state_of self.new).receipts) × Admitted (state_of self.old) delivery.now.head delivery.now.bytes.now (state_of self.new)) (λ e. (book_fault (state_of self.old) delivery.now.head delivery.now.bytes.now ≡ Some e) × (self.new ≡ self.old)) }
@@ -150,11 +130,10 @@ impl<'a> Book<'a> {
         let mut stations = [empty; MOST_ROWS];
         let mut series = [empty; MOST_ROWS];
         let mut tables = [empty; MOST_ROWS];
-        self.admit_by(
-            delivery,
-            &mut stations[0..head.stations.rows as usize],
-            &mut series[0..head.series.rows as usize],
-            &mut tables[0..head.tables.rows as usize],
-        )
+        let stations = &mut stations[0..head.stations.rows as usize];
+        let series = &mut series[0..head.series.rows as usize];
+        let tables = &mut tables[0..head.tables.rows as usize];
+        self.judge(delivery, stations, series, tables)?;
+        Ok(self.enter(delivery, stations, series, tables))
     }
 }

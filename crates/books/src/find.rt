@@ -26,7 +26,8 @@ pub enum Found {
     Unknown,
 }
 
-// A kind of which the book has a register.
+// A kind of which the book has a register. Each kind writes `standing` itself, since the checker does not yet give a method
+// that is inherited with its body the clauses of its trait.
 pub trait Booked: Kind {
     ghost run: { State → List (Entry Self.Number Self.Told) };
 

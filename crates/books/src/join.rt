@@ -1,8 +1,7 @@
 // The series that joins two stations.
-ghost use Rattle.books.specs.Join.{Nearest, better, comes_first, joined, joins, with_series};
+ghost use Rattle.books.specs.Join.{Nearest, joined, joins, series_between, with_series};
 ghost use Rattle.books.specs.State.{state_of};
 ghost use Rattle.std.specs.Prelude.{◌≡◌, None, fold};
-ghost use Rattle.std.specs.Option.{option_map};
 
 use crate::book::Book;
 use kinds::series::SeriesTold;
@@ -16,54 +15,25 @@ fn is_between(told: &SeriesTold, one: u32, other: u32) -> bool
     (ends.0 == one && ends.1 == other) || (ends.0 == other && ends.1 == one)
 }
 
-// Whether a route number and series number come before others.
-fn is_first(x: (u32, u32), y: (u32, u32)) -> bool
-    ensures { result ≡ comes_first x y }
-{
-    x.0 < y.0 || (x.0 == y.0 && x.1 < y.1)
-}
-
-fn better_of(best: Option<(u32, u32)>, x: (u32, u32)) -> (u32, u32)
-    ensures { result ≡ better best x }
-{
-    match best {
-        Some(y) => { if is_first(x, y) { x } else { y } }
-        None => x,
-    }
-}
-
-// The best so far, with one more series.
-fn with_series(
-    best: Option<(u32, u32)>,
-    entry: &Entry<u32, SeriesTold>,
-    one: u32,
-    other: u32,
-) -> Option<(u32, u32)>
-    ensures { result ≡ with_series one other best entry.now }
+// The route number and the number of an entry that is a live series between the stations.
+fn series_between(entry: &Entry<u32, SeriesTold>, one: u32, other: u32) -> Option<(u32, u32)>
+    ensures { result ≡ series_between one other entry.now }
 {
     match &entry.standing {
-        Standing::Live(told) => {
-            if is_between(told, one, other) {
-                Some(better_of(best, (told.route_number, entry.id.number)))
-            } else {
-                best
-            }
+        Standing::Live(told) if is_between(told, one, other) => {
+            Some((told.route_number, entry.id.number))
         }
-        Standing::Retired(_) => best,
+        _ => None,
     }
 }
 
-fn join_among(own: &[Entry<u32, SeriesTold>], one: u32, other: u32) -> Option<u32>
-    ensures { result ≡ option_map (λ x. x.1) (fold (with_series one other) None own.now) }
+// The least route number, and among these the least number.
+fn join_among(own: &[Entry<u32, SeriesTold>], one: u32, other: u32) -> Option<(u32, u32)>
+    ensures { result ≡ fold (with_series one other) None own.now }
 {
-    let mut best = None;
-    for entry in own {
-        best = with_series(best, entry, one, other);
-    }
-    match best {
-        Some((_, number)) => Some(number),
-        None => None,
-    }
+    own.iter()
+        .filter_map(|entry| series_between(entry, one, other))
+        .min()
 }
 
 impl Book<'_> {
@@ -73,6 +43,6 @@ impl Book<'_> {
         ensures value { result ≡ joined (state_of self.now).series supplier one other }
         ensures nearest { Nearest (state_of self.now).series supplier one other result }
     {
-        join_among(self.series.own(supplier), one, other)
+        join_among(self.series.own(supplier), one, other).map(|(_, number)| number)
     }
 }

@@ -1,7 +1,9 @@
 // The lines of a book: for each supplier, what was last admitted, and the count of receipts.
-ghost use Rattle.std.specs.Prelude.{◌≡◌, ◌+◌, ◌≤◌, length, take, None};
+ghost use Rattle.std.specs.Prelude.{◌≡◌, ◌+◌, ◌≤◌, take, None, position, ◌==◌};
+ghost use Rattle.std.specs.List.{find};
 ghost use Rattle.std.specs.Result.{result_err};
-ghost use Rattle.books.specs.Lines.{follows, follows_line, judged_line, line_after, line_fault, line_of, noted, place};
+ghost use Rattle.books.specs.Lines.{SingleLines, follows, follows_line, judged_line, line_after, line_fault, noted};
+ghost use Rattle.std.proofs.lemmas.Map.Keys.{IsDistinct-prop};
 
 use crate::fault::LineFault;
 use deliveries::head::Head;
@@ -19,12 +21,15 @@ pub struct Line {
     pub version: u32,
 }
 
-// The first lines are used, one for each supplier.
+// The first lines are used, one for each supplier. They stand in an array with a count, since `ArrayVec` asks for a default
+// line, and no day is a date's default.
 #[derive(Clone, Copy)]
 pub struct Lines {
     lines: [Line; 16],
     used: usize,
     receipts: u32,
+    ghost few: { used ≤ 16 },
+    ghost single: { SingleLines (take used lines) } by { IsDistinct-prop _ _ },
 }
 
 // Whether a delivery comes right after the one of the line: a later day with version 01, or the same day with the next
@@ -38,28 +43,17 @@ fn comes_after(line: &Line, head: &Head) -> bool
     line.first_day == head.first_day && u64::from(head.version) == u64::from(line.version) + 1
 }
 
-// The place of a supplier's line, or the next one.
-fn place_of(lines: &[Line], supplier: u32) -> usize
-    ensures value { result ≡ place lines.now supplier }
-    ensures bound { result ≤ length lines.now }
+// The place of a supplier's line.
+fn place_of(lines: &[Line], supplier: u32) -> Option<usize>
+    ensures { result ≡ position (λ l. l.supplier == supplier) lines.now }
 {
-    for (i, line) in lines.iter().enumerate() {
-        if line.supplier == supplier {
-            return i;
-        }
-    }
-    lines.len()
+    lines.iter().position(|line| line.supplier == supplier)
 }
 
 fn line_of(lines: &[Line], supplier: u32) -> Option<Line>
-    ensures { result ≡ line_of lines.now supplier }
+    ensures { result ≡ find (λ l. l.supplier == supplier) lines.now }
 {
-    let at = place_of(lines, supplier);
-    if at < lines.len() {
-        Some(lines[at])
-    } else {
-        None
-    }
+    lines.iter().find(|line| line.supplier == supplier).copied()
 }
 
 // Whether a delivery follows a line, or may be a supplier's first.
@@ -106,24 +100,20 @@ impl Lines {
 
     // Whether a delivery may be the next of its supplier: 11, 12, 13.
     pub(crate) fn check(&self, head: &Head) -> Result<(), LineFault>
-        requires { self.now.used ≤ 16 }
         ensures { result_err result ≡ line_fault (take self.now.used self.now.lines) self.now.receipts head.now }
     {
-        let used = self.used;
-        let line = line_of(&self.lines[0..used], head.supplier);
-        judge(&line, used >= MOST_LINES, self.receipts, head)
+        let line = line_of(&self.lines[0..self.used], head.supplier);
+        judge(&line, self.used >= MOST_LINES, self.receipts, head)
     }
 
     // Sets the line of a delivery that may be the next of its supplier, and answers the next receipt.
     pub(crate) fn note(&mut self, head: &Head) -> u32
-        requires used { self.old.used ≤ 16 }
-        requires may { line_fault (take self.old.used self.old.lines) self.old.receipts head.now ≡ None }
+        requires { line_fault (take self.old.used self.old.lines) self.old.receipts head.now ≡ None }
         ensures receipt { (result ≡ self.old.receipts + 1) × (self.new.receipts ≡ result) }
-        ensures used { self.new.used ≤ 16 }
         ensures lines { take self.new.used self.new.lines ≡ noted (take self.old.used self.old.lines) (line_after head.now) }
     {
         let used = self.used;
-        let at = place_of(&self.lines[0..used], head.supplier);
+        let at = place_of(&self.lines[0..used], head.supplier).unwrap_or(used);
         self.lines[at] = Line {
             supplier: head.supplier,
             first_day: head.first_day,

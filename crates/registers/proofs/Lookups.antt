@@ -1,12 +1,12 @@
 -- In entries that ascend by their ids, a binary search finds what stands under an id.
-use Rattle.std.proofs.Common.{◌≡◌, ℕ, zero, suc, ◌+◌, ◌<◌, false, cond, List, [], ◌∷◌, length, get_or, Some, None, Ordering, Less, Equal, Greater, sym, refl, ap, ◌∙◌, ⊎_elim, arith}
+use Rattle.std.proofs.Common.{◌≡◌, ℕ, zero, suc, ◌+◌, ◌<◌, Bool, true, false, cond, List, [], ◌∷◌, length, get_or, Some, None, Ordering, Less, Equal, Greater, sym, refl, ap, ◌∙◌, ⊎_elim, arith, MatchBool}
 use Rattle.std.specs.Cmp.{IsTotalOrder, alike_right}
 use Rattle.std.specs.Ordering.{is_eq, is_lt, ordering_reverse}
-use Rattle.std.specs.List.{AllByRecursion}
+use Rattle.std.specs.List.{AllByRecursion, IsAllAdjacentAnswer}
 use Rattle.std.specs.List.Sorted.{IsPartitionPoint, IsSortedWithin, IsStrictlySortedBy}
-use Rattle.std.proofs.lemmas.Map.Keys.{Less-from_sorted}
+use Rattle.std.proofs.lemmas.Map.Keys.{Less-from_sorted, sorted_from_all_adjacent}
 use Rattle.std.proofs.lemmas.List.{get_or-map, length-map}
-use Rattle.std.proofs.lemmas.Bool.{cases_lt}
+use Rattle.std.proofs.lemmas.Bool.{cases_lt, false≢true, true≢false}
 use Rattle.registers.specs.declared.entry.Entry.{Entry}
 use Rattle.registers.specs.declared.entry.Id.{Id}
 use Rattle.registers.specs.Entries.{ids, standing}
@@ -19,6 +19,15 @@ module _ {N : Type 0} {P : Id N → Id N → Ordering} (o : IsTotalOrder P) wher
   pub sorted_tail : (x : Id N) (xs : List (Id N)) → IsStrictlySortedBy P (x ∷ xs) → IsStrictlySortedBy P xs
   unfolding IsStrictlySortedBy
   sorted_tail x xs s = s.1
+
+less_is : (o : Ordering) → is_lt o ≡ true → o ≡ Less
+less_is Less e = refl
+less_is Equal e = absurd (false≢true e)
+less_is Greater e = absurd (false≢true e)
+
+pub none_ascend : {N : Type 0} (P : Id N → Id N → Ordering) → IsStrictlySortedBy P []
+unfolding IsStrictlySortedBy
+none_ascend P = tt
 
 module _ {N T : Type 0} {P : Id N → Id N → Ordering} (o : IsTotalOrder P) where
   -- an earlier entry's id is below a later one's
@@ -51,3 +60,18 @@ module _ {N T : Type 0} {P : Id N → Id N → Ordering} (o : IsTotalOrder P) wh
   standing_missed es up i at parted =
       standing_none es i
       (λ k d l. ⊎_elim (λ z. ap is_eq (parted.0 k d (omega arith) z)) (λ z. ap is_eq (parted.1 k d z l)) (cases_lt k at))
+
+  -- each id is below the next, or one is not
+  pub rising : (es : List (Entry N T)) (r : Bool) → IsAllAdjacentAnswer (λ x y b. b ≡ is_lt (P x.id y.id)) es r →
+      MatchBool r (IsStrictlySortedBy P (ids es)) (IsStrictlySortedBy P (ids es) → ⊥)
+  rising [] true h = none_ascend P
+  rising (e ∷ es) true h =
+      sorted_from_all_adjacent o (ids (e ∷ es)) e.id
+      (λ k l.
+      let n : length (ids (e ∷ es)) ≡ length (e ∷ es) = length-map (e ∷ es) (λ x. x.id) in
+      let at : k + 1 < length (e ∷ es) = omega (arith, n) in
+      (λ t. P (get_or-map (λ x. x.id) (e ∷ es) k e e.id (omega arith) t) (get_or-map (λ x. x.id) (e ∷ es) (k + 1) e e.id at t))
+      ∙ less_is _ (sym (h k e at)))
+  rising [] false h = absurd (omega (arith, h.1))
+  rising (e ∷ es) false h =
+      λ up. true≢false (sym (ap is_lt (below (e ∷ es) up h.0 (h.0 + 1) e (omega arith) h.1)) ∙ sym (h.2 e))

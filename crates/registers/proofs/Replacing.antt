@@ -1,5 +1,5 @@
 -- What a run holds after its steps: blocked entries to the front, the rest moved, the gap filled, the part sorted.
-use Rattle.std.proofs.Common.{◌≡◌, ℕ, ◌+◌, ◌-◌, ◌≤◌, min, List, ◌++◌, length, take, drop, sym, ap, ◌∙◌, arith}
+use Rattle.std.proofs.Common.{◌≡◌, ℕ, ◌+◌, ◌-◌, ◌≤◌, List, ◌++◌, length, take, drop, sym, ap, ◌∙◌, arith}
 use borrow.Rule.Slice.PartMut.{post_of, put_mid}
 use Rattle.std.proofs.lemmas.List.{append_assoc, drop_at, drop-take, length-append, length-drop, length-take, take-append-drop, take-append-le, take_at, take-take}
 use Rattle.std.proofs.lemmas.Slice.{between-put_mid, drop-put_mid, take-put_mid, take-put_mid_below}
@@ -23,13 +23,13 @@ module _ {X : Type 0} (x0 x2 own kept : List X) (start end used b n : ℕ)
     (first : start ≤ end) (last : end ≤ used) (within : used ≤ length x0)
     (long-own : length own ≡ end - start) (few : b ≤ end - start) (front : take b own ≡ kept)
     (room : start + b + n + (used - end) ≤ length x0) (long : length x2 ≡ length x0)
-    (same : take (min end (start + b + n)) x2 ≡ take (min end (start + b + n)) (put_mid start (end - start) x0 own))
+    (same : take (start + b + n) x2 ≡ take (start + b + n) (put_mid start (end - start) x0 own))
     (moved : part (start + b + n) (start + b + n + (used - end)) x2 ≡ part end used (put_mid start (end - start) x0 own)) where
   -- up to the blocked entries
   to_blocked : take (start + b) x2 ≡ take start x0 ++ kept
   to_blocked =
       let x1 = put_mid start (end - start) x0 own in
-      let m = min end (start + b + n) in
+      let m = start + b + n in
       let low : start + b ≤ m = omega arith in
       let all = length-take start x0 in
       sym (take-take (start + b) m x2 low)

@@ -1,6 +1,6 @@
 -- The first fault of a file beside the entries, and how many entries stand after it.
 use Rattle.std.proofs.Common.{◌≡◌, ℕ, ◌+◌, ◌-◌, ◌≤◌, Bool, false, not, ◌&&◌, leb, List, ◌++◌, map, length, take, drop, Some, None, count_by, filter, Option, Ordering, sym, ap, ◌∙◌, subst, ⊎_elim, arith}
-use Rattle.std.specs.List.{range_with_len}
+use Rattle.std.specs.List.{range_with_len, AllByRecursion}
 use Rattle.std.specs.Cmp.{IsTotalOrder}
 use Rattle.std.specs.Option.{option_map}
 use Rattle.std.specs.List.Sorted.{IsPermutation}
@@ -13,17 +13,17 @@ use Rattle.std.proofs.lemmas.Bool.{and_left, cases_lt, le-leb, lt-leb}
 use Rattle.indexes.specs.declared.Place.{Place}
 use Rattle.indexes.specs.Places.{SortedPlaces}
 use Rattle.kinds.specs.Meaning.{Meaning}
-use Rattle.files.specs.Files.{Noted}
+use Rattle.files.specs.Files.{Noted, record_at}
 use Rattle.files.specs.First.{or_else}
 use Rattle.registers.specs.declared.entry.Entry.{Entry}
 use Rattle.registers.specs.declared.fault.RegisterFault.{RegisterFault}
 use Rattle.registers.specs.declared.fault.RegisterFault.TheVariants.{Missing}
 use Rattle.registers.specs.Admission.{Passes, entries_after, is_missing, lowest, missing_refusal, register_fault, row_entry, rows_refusal}
-use Rattle.registers.specs.Entries.{is_own, stays_blocked}
+use Rattle.registers.specs.Entries.{Ascending, is_own, stays_blocked}
 use Rattle.registers.specs.Indexes.{Index, row_place}
 use Rattle.registers.specs.Own.{OwnPart, part}
 use Rattle.registers.proofs.Lowest.{lowest_past, lowest_until}
-use Rattle.registers.proofs.Split.{after_others, before_others, in_parts, length_part, others_are, own_kept}
+use Rattle.registers.proofs.Split.{after_others, ascending_part, before_others, in_parts, length_part, others_are, own_kept, part_own}
 
 -- the places of the rows, sorted
 pub indexed : {R T N K : Type 0} (m : Meaning R T N K) (s : ℕ) (row : ℕ → List ℕ) (P : N → N → Ordering) (n : ℕ) (ps qs : List (Place N)) →
@@ -35,6 +35,16 @@ indexed m s row P n ps qs long noted same sorted =
       shuffled = subst (λ k. IsPermutation (map (row_place m s row) (range_with_len 0 k)) qs) count (subst (λ xs. IsPermutation xs qs) all same);
       sorted = sorted;
     }
+
+-- the missing numbers by what is answered of the supplier's part and the places of the rows
+pub missing_is : {R T N K : Type 0} (m : Meaning R T N K) (s : ℕ) (row : ℕ → List ℕ) {P : N → N → Ordering} (run es : List (Entry N T)) → run ≡ es → (n start end : ℕ) → start ≤ end → end ≤ length es → OwnPart es s start end →
+    Ascending m.numbers es → (qs : List (Place N)) → Index m s row P qs → length qs ≡ n → (o : Option RegisterFault) →
+    (Index m s row P qs → Ascending m.numbers (part start end run) → AllByRecursion (λ e. e.id.supplier ≡ s) (part start end run) → o ≡ missing_refusal m s (record_at m s row) (part start end run) (length qs)) →
+    o ≡ missing_refusal m s (record_at m s row) (part start end es) n
+missing_is m s row run es is n start end first last own up qs index long o h =
+    let mine = ap (part start end) is in
+    h index (subst (Ascending m.numbers) (sym mine) (ascending_part m.numbers es start end up)) (subst (AllByRecursion (λ e. e.id.supplier ≡ s)) (sym mine) (part_own es s start end first last own))
+    ∙ (λ i. missing_refusal m s (record_at m s row) (mine i) (long i))
 
 -- the rows fit beside what stays exactly where all of it fits
 pub fits_same : (n room stay all : ℕ) → stay ≤ room → stay + n ≡ all → leb n (room - stay) ≡ leb all room

@@ -1,12 +1,12 @@
 -- Where the entries of a supplier stand.
-use Rattle.std.specs.Prelude.{◌≡◌, ℕ, ◌+◌, ◌-◌, ◌<◌, ◌≤◌, List, ◌++◌, length, take, drop, count_by}
+use Rattle.std.specs.Prelude.{◌≡◌, ℕ, ◌+◌, ◌-◌, ◌<◌, ◌≤◌, List, ◌++◌, length, take, drop, count_by, Option, MatchOption}
 use Rattle.std.specs.declared.cmp.Ordering.{Ordering}
 use Rattle.std.specs.List.{AllWithin}
-use Rattle.std.specs.List.Sorted.{IsNonDecreasingBy, IsSortedWithin, IsPermutation}
+use Rattle.std.specs.List.Sorted.{IsNonDecreasingBy, IsSortedWithin, IsPermutation, IsStrictlySortedBy}
 use Rattle.std.specs.Cmp.{IsTotalOrder}
 use Rattle.std.specs.Ordering.{is_lt}
 use Rattle.registers.specs.declared.entry.Entry.{Entry}
-use Rattle.registers.specs.Entries.{stays_blocked}
+use Rattle.registers.specs.Entries.{ids, stays_blocked}
 use Rattle.registers.specs.Ids.{id_cmp}
 
 abbrev pub BySupplier : {N T : Type 0} → List (Entry N T) → Type 0
@@ -37,3 +37,9 @@ pub record Replaced {N T : Type 0} (P : N → N → Ordering) (xs ys : List (Ent
   pub ascends : (o : IsTotalOrder P) → IsSortedWithin (λ x y. is_lt (id_cmp P x.id y.id)) own 0 (length own)
   pub all : take r ys ≡ take start xs ++ (own ++ part end used xs)
   pub count : r ≡ start + length fresh + (used - end)
+
+-- as above, and whether the fresh entries are apart: then r entries are used, and none where a number stands twice
+pub record Renewed {N T : Type 0} (P : N → N → Ordering) (xs ys : List (Entry N T)) (start end used : ℕ) (fresh : List (Entry N T)) (r : Option ℕ) : Type 0 where
+  pub count : ℕ
+  pub replaced : Replaced P xs ys start end used fresh count
+  pub single : IsTotalOrder P → MatchOption r (IsStrictlySortedBy (id_cmp P) (ids replaced.own) → ⊥) (λ n. (n ≡ count) × IsStrictlySortedBy (id_cmp P) (ids replaced.own))

@@ -10,12 +10,11 @@ ghost use Rattle.std.specs.List.{AllByRecursion};
 
 use crate::entry::{Entry, Id, Standing, is_blocked};
 use crate::fault::{EntryFault, RegisterFault};
-use crate::lookup::standing_of;
-use crate::own::{Own, staying};
+use crate::own::staying;
+use crate::register::Register;
 use fields::flags::KeyFlag;
-use files::reading::MOST_ROWS;
 use files::rows::Rows;
-use indexes::{Place, first_repeat, put, row_of};
+use indexes::{Place, first_repeat, row_of};
 use kinds::kind::Kind;
 
 fn check_new(key_flag: KeyFlag, number: u32) -> Result<(), EntryFault>
@@ -58,48 +57,6 @@ fn check_entry<K: Kind>(
     }
 }
 
-// Row i beside what stands under its number: its number, or the first fault.
-fn check_row<K: Kind>(
-    entries: &[Entry<K::Number, K::Told>],
-    rows: &Rows<'_>,
-    i: usize,
-    year: u16,
-) -> Result<K::Number, EntryFault>
-    ensures number { IfOk result (λ n. n ≡ K.Kind.meaning.number (record_at K.Kind.meaning rows.now.supplier (row_in rows.now) i)) }
-    ensures first { Ascending K.Kind.meaning.numbers entries.now → result_err result ≡ row_refusal K.Kind.meaning rows.now.supplier (record_at K.Kind.meaning rows.now.supplier (row_in rows.now)) entries.now year i }
-{
-    let newer = rows.record::<K>(i);
-    let number = newer.number();
-    let id = Id {
-        supplier: rows.supplier,
-        number,
-    };
-    check_entry(&newer, &standing_of(entries, id), year)?;
-    Ok(number)
-}
-
-// The rows beside what stands under their numbers, as many as there is room for places. Where none is refused, the
-// places are those of the rows' numbers, in file order.
-fn check_rows<K: Kind>(
-    entries: &[Entry<K::Number, K::Told>],
-    rows: &Rows<'_>,
-    year: u16,
-    places: &mut [Place<K::Number>],
-) -> Result<(), RegisterFault>
-    requires { length places.old ≤ 4096 }
-    ensures first { Ascending K.Kind.meaning.numbers entries.now → result_err result ≡ rows_refusal K.Kind.meaning rows.now.supplier (record_at K.Kind.meaning rows.now.supplier (row_in rows.now)) entries.now year (length places.old) }
-    ensures noted { is_ok result ≡ true → Noted K.Kind.meaning rows.now.supplier (row_in rows.now) (length places.old) places.new }
-{
-    for i in 0..places.len() {
-        let row = i as u32;
-        match check_row::<K>(entries, rows, i, year) {
-            Ok(number) => put(places, i, Place { number, row }),
-            Err(fault) => return Err(RegisterFault::Row(row + 1, fault)),
-        }
-    }
-    Ok(())
-}
-
 // Whether an entry is live and its number not among the places.
 fn lacks_row<K: Kind>(entry: &Entry<K::Number, K::Told>, places: &[Place<K::Number>]) -> bool
     ensures { (s : ℕ) (row : ℕ → List ℕ) → Index K.Kind.meaning s row K.Number.Ord.cmp places.now → result ≡ (is_live entry.now.standing && not (has_row K.Kind.meaning s (record_at K.Kind.meaning s row) (length places.now) entry.now.id.number)) }
@@ -125,41 +82,62 @@ fn check_missing<K: Kind>(
     Ok(())
 }
 
-// A file beside the used entries, as many rows as there are places. Where nothing is refused, the answer is how many
-// entries stay beside the rows, and the places are those of the rows' numbers, sorted.
-fn check_file<K: Kind>(
-    entries: &[Entry<K::Number, K::Told>],
-    used: usize,
-    rows: &Rows<'_>,
-    year: u16,
-    places: &mut [Place<K::Number>],
-) -> Result<usize, RegisterFault>
-    requires used { used ≤ length entries.now }
-    requires few { length places.old ≤ 4096 }
-    ensures first { Ascending K.Kind.meaning.numbers (take used entries.now) → MatchResult result (Passes K.Kind.meaning rows.now.supplier (record_at K.Kind.meaning rows.now.supplier (row_in rows.now)) (take used entries.now) year (length places.old)) (λ e. register_fault K.Kind.meaning rows.now.supplier (record_at K.Kind.meaning rows.now.supplier (row_in rows.now)) (take used entries.now) year (length places.old) ≡ Some e) }
-    ensures few { IfOk result (λ stay. stay ≤ used) }
-    ensures index { is_ok result ≡ true → Index K.Kind.meaning rows.now.supplier (row_in rows.now) K.Number.Ord.cmp places.new }
-{
-    check_rows::<K>(&entries[0..used], rows, year, places)?;
-    let _ = first_repeat(places);
-    let (Own { start, end }, stay) = staying(entries, used, rows.supplier, year);
-    check_missing::<K>(&entries[start..end], places)?;
-    Ok(stay)
-}
+impl<K: Kind> Register<'_, K> {
+    // Row i beside what stands under its number: its number, or the first fault.
+    fn check_row(&self, rows: &Rows<'_>, i: usize, year: u16) -> Result<K::Number, EntryFault>
+        ensures number { IfOk result (λ n. n ≡ K.Kind.meaning.number (record_at K.Kind.meaning rows.now.supplier (row_in rows.now) i)) }
+        ensures first { result_err result ≡ row_refusal K.Kind.meaning rows.now.supplier (record_at K.Kind.meaning rows.now.supplier (row_in rows.now)) (take self.now.used self.now.entries.now) year i }
+    {
+        let newer = rows.record::<K>(i);
+        let number = newer.number();
+        let id = Id {
+            supplier: rows.supplier,
+            number,
+        };
+        check_entry(&newer, &self.standing(id), year)?;
+        Ok(number)
+    }
 
-// A file beside the used entries of a run, as many rows as there are places: whether its entries fit, or the first fault.
-pub(crate) fn check_run<K: Kind>(
-    entries: &[Entry<K::Number, K::Told>],
-    used: usize,
-    rows: &Rows<'_>,
-    year: u16,
-    places: &mut [Place<K::Number>],
-) -> Result<bool, RegisterFault>
-    ensures first { used ≤ length entries.now → length places.old ≤ 4096 → Ascending K.Kind.meaning.numbers (take used entries.now) → Judged K.Kind.meaning rows.now.supplier (record_at K.Kind.meaning rows.now.supplier (row_in rows.now)) (take used entries.now) year (length places.old) (length entries.now) result }
-    ensures index { length places.old ≤ 4096 → is_ok result ≡ true → Index K.Kind.meaning rows.now.supplier (row_in rows.now) K.Number.Ord.cmp places.new }
-{
-    let used = used.min(entries.len());
-    let n = MOST_ROWS.min(places.len());
-    let stay = check_file::<K>(entries, used, rows, year, &mut places[0..n])?;
-    Ok(places.len() <= entries.len() - stay)
+    // The rows beside what stands under their numbers, as many as there is room for places. Where none is refused, the
+    // places are those of the rows' numbers, in file order. The places are written by index, since a proof does not know
+    // what is written through an iterator.
+    fn check_rows(
+        &self,
+        rows: &Rows<'_>,
+        year: u16,
+        places: &mut [Place<K::Number>],
+    ) -> Result<(), RegisterFault>
+        requires { length places.old ≤ 4096 }
+        ensures first { result_err result ≡ rows_refusal K.Kind.meaning rows.now.supplier (record_at K.Kind.meaning rows.now.supplier (row_in rows.now)) (take self.now.used self.now.entries.now) year (length places.old) }
+        ensures noted { is_ok result ≡ true → Noted K.Kind.meaning rows.now.supplier (row_in rows.now) (length places.old) places.new }
+    {
+        for i in 0..places.len() {
+            let row = i as u32;
+            match self.check_row(rows, i, year) {
+                Ok(number) => places[i] = Place { number, row },
+                Err(fault) => return Err(RegisterFault::Row(row + 1, fault)),
+            }
+        }
+        Ok(())
+    }
+
+    // A file beside the used entries, as many rows as there are places. Where nothing is refused, the answer is how many
+    // entries stay beside the rows, and the places are those of the rows' numbers, sorted.
+    pub(crate) fn check_file(
+        &self,
+        rows: &Rows<'_>,
+        year: u16,
+        places: &mut [Place<K::Number>],
+    ) -> Result<usize, RegisterFault>
+        requires { length places.old ≤ 4096 }
+        ensures first { MatchResult result (Passes K.Kind.meaning rows.now.supplier (record_at K.Kind.meaning rows.now.supplier (row_in rows.now)) (take self.now.used self.now.entries.now) year (length places.old)) (λ e. register_fault K.Kind.meaning rows.now.supplier (record_at K.Kind.meaning rows.now.supplier (row_in rows.now)) (take self.now.used self.now.entries.now) year (length places.old) ≡ Some e) }
+        ensures index { is_ok result ≡ true → Index K.Kind.meaning rows.now.supplier (row_in rows.now) K.Number.Ord.cmp places.new }
+    {
+        self.check_rows(rows, year, places)?;
+        let _ = first_repeat(places);
+        let run = self.run();
+        let (own, stay) = staying(run, rows.supplier, year);
+        check_missing::<K>(&run[own.start..own.end], places)?;
+        Ok(stay)
+    }
 }

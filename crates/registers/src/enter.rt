@@ -1,20 +1,22 @@
 // Entering a file: its rows take the place of the supplier's entries, but for those that are still blocked.
-ghost use Rattle.std.specs.Prelude.{◌≡◌, ◌+◌, ◌-◌, ◌<◌, ◌≤◌, min, ◌++◌, map, length, take, count_by, filter};
+ghost use Rattle.std.specs.Prelude.{◌≡◌, ◌+◌, ◌-◌, ◌<◌, ◌≤◌, min, ◌++◌, map, length, take, count_by, filter, MatchBool};
 ghost use Rattle.files.specs.Files.{record_at};
 ghost use Rattle.files.specs.Rows.{row_in};
-ghost use Rattle.registers.specs.Admission.{Entered, entries_after, entry_of, row_entry};
-ghost use Rattle.registers.specs.Entries.{Ascending, stays_blocked};
-ghost use Rattle.registers.specs.Indexes.{Enterable};
-ghost use Rattle.registers.specs.Own.{Replaced, part};
-ghost use Rattle.std.specs.Ordering.{is_gt};
-ghost use Rattle.std.specs.List.Sorted.{IsPermutation};
+ghost use Rattle.registers.specs.Admission.{entry_of, row_entry};
+ghost use Rattle.registers.specs.Entries.{ids, stays_blocked};
+ghost use Rattle.registers.specs.Ids.{id_cmp};
+ghost use Rattle.registers.specs.Own.{Renewed, part};
+ghost use Rattle.std.specs.Cmp.{IsTotalOrder};
+ghost use Rattle.std.specs.Ordering.{is_gt, is_lt};
+ghost use Rattle.std.specs.List.Sorted.{IsPermutation, IsSortedWithin, IsStrictlySortedBy};
 
 use crate::entry::{Entry, Id, Standing};
-use crate::own::{Own, staying, stays_blocked};
+use crate::own::stays_blocked;
 use files::rows::Rows;
-use indexes::{Place, put};
+use indexes::Place;
 use kinds::kind::Kind;
 use std::cmp::Ord;
+use std::ops::Range;
 
 // Moves the entries that are still blocked to the front, and answers how many they are.
 fn keep_blocked<N: Copy, T: Copy>(own: &mut [Entry<N, T>], year: u16) -> usize
@@ -25,26 +27,11 @@ fn keep_blocked<N: Copy, T: Copy>(own: &mut [Entry<N, T>], year: u16) -> usize
     for i in 0..own.len() {
         let entry = own[i];
         if stays_blocked(&entry, year) {
-            put(own, count, entry);
+            own[count] = entry;
             count += 1;
         }
     }
     count
-}
-
-// Moves the elements from one place up to another, so that they begin at a third.
-fn shift<X>(xs: &mut [X], from: usize, until: usize, to: usize)
-    requires ends { (from ≤ until) × (until ≤ length xs.old) }
-    requires room { to + (until - from) ≤ length xs.old }
-    ensures front { take (min from to) xs.new ≡ take (min from to) xs.old }
-    ensures moved { part to (to + (until - from)) xs.new ≡ part from until xs.old }
-{
-    if to < from {
-        xs[to..until].rotate_left(from - to);
-    } else if from < to {
-        let end = to + (until - from);
-        xs[from..end].rotate_right(to - from);
-    }
 }
 
 // The entry that a record makes.
@@ -101,54 +88,44 @@ fn merge<K: Kind>(
         let place = &places[left - 1];
         if blocked > 0 && is_above(&own[blocked - 1], place) {
             let entry = own[blocked - 1];
-            put(own, blocked + left - 1, entry);
+            own[blocked + left - 1] = entry;
             blocked -= 1;
         } else {
-            put(own, blocked + left - 1, entry_at::<K>(rows, place, year));
+            own[blocked + left - 1] = entry_at::<K>(rows, place, year);
             left -= 1;
         }
     }
 }
 
-// Puts the entries of the rows in the place of a supplier's own, but for those that are still blocked, and answers how
-// many entries there are then.
-fn replace_own<K: Kind>(
-    entries: &mut [Entry<K::Number, K::Told>],
-    used: usize,
-    own: Own,
-    rows: &Rows<'_>,
-    year: u16,
-    places: &[Place<K::Number>],
-) -> usize
-    requires within { (own.start ≤ own.end) × (own.end ≤ used) × (used ≤ length entries.old) }
-    requires room { used - (own.end - own.start) + count_by (stays_blocked year) (part own.start own.end entries.old) + length places.now ≤ length entries.old }
-    ensures { Replaced K.Number.Ord.cmp entries.old entries.new own.start own.end used (filter (stays_blocked year) (part own.start own.end entries.old) ++ map (λ p. row_entry K.Kind.meaning rows.now.supplier (record_at K.Kind.meaning rows.now.supplier (row_in rows.now)) year p.row) places.now) result }
+// Sorts entries, and answers whether no number stands twice among them.
+fn sort<N: Ord, T>(entries: &mut [Entry<N, T>]) -> bool
+    ensures same { IsPermutation entries.old entries.new }
+    ensures sorted { IsSortedWithin (λ x y. is_lt (id_cmp N.Ord.cmp x.id y.id)) entries.new 0 (length entries.new) }
+    ensures single { IsTotalOrder N.Ord.cmp → MatchBool result (IsStrictlySortedBy (id_cmp N.Ord.cmp) (ids entries.new)) (IsStrictlySortedBy (id_cmp N.Ord.cmp) (ids entries.new) → ⊥) }
 {
-    let Own { start, end } = own;
-    let blocked = keep_blocked(&mut entries[start..end], year);
-    let until = start + blocked + places.len();
-    shift(entries, end, used, until);
-    merge::<K>(&mut entries[start..until], blocked, rows, year, places);
-    entries[start..until].sort_unstable();
-    until + (used - end)
+    entries.sort_unstable();
+    entries.is_sorted_by(|x, y| x.cmp(y).is_lt())
 }
 
-// Enters a file into the used entries of a run, and answers how many are used then. Where they would not fit, nothing is
-// written. The places are those of the rows' numbers, sorted.
-pub(crate) fn enter_run<K: Kind>(
+// Puts the entries of the rows in the place of a supplier's own, but for those that are still blocked, and answers how
+// many entries there are then; none, where a number stands twice among the supplier's.
+pub(crate) fn replace_own<K: Kind>(
     entries: &mut [Entry<K::Number, K::Told>],
     used: usize,
+    own: Range<usize>,
     rows: &Rows<'_>,
     year: u16,
     places: &[Place<K::Number>],
-) -> usize
-    ensures entered { Enterable K.Kind.meaning rows.now.supplier (row_in rows.now) K.Number.Ord.cmp entries.old used year places.now → (result ≤ length entries.new) × Entered K.Kind.meaning rows.now.supplier (record_at K.Kind.meaning rows.now.supplier (row_in rows.now)) (take used entries.old) year (length places.now) (take result entries.new) }
-    ensures left { used ≤ length entries.old → Ascending K.Kind.meaning.numbers (take used entries.old) → length entries.old < length (entries_after K.Kind.meaning rows.now.supplier (record_at K.Kind.meaning rows.now.supplier (row_in rows.now)) (take used entries.old) year (length places.now)) → (result ≡ used) × (entries.new ≡ entries.old) }
+) -> Option<usize>
+    requires within { (own.start ≤ own.end) × (own.end ≤ used) × (used ≤ length entries.old) }
+    requires room { used - (own.end - own.start) + count_by (stays_blocked year) (part own.start own.end entries.old) + length places.now ≤ length entries.old }
+    ensures { Renewed K.Number.Ord.cmp entries.old entries.new own.start own.end used (filter (stays_blocked year) (part own.start own.end entries.old) ++ map (λ p. row_entry K.Kind.meaning rows.now.supplier (record_at K.Kind.meaning rows.now.supplier (row_in rows.now)) year p.row) places.now) result }
 {
-    let used = used.min(entries.len());
-    let (own, stay) = staying(entries, used, rows.supplier, year);
-    if entries.len() - stay < places.len() {
-        return used;
-    }
-    replace_own::<K>(entries, used, own, rows, year, places)
+    let Range { start, end } = own;
+    let blocked = keep_blocked(&mut entries[start..end], year);
+    let until = start + blocked + places.len();
+    entries.copy_within(end..used, until);
+    merge::<K>(&mut entries[start..until], blocked, rows, year, places);
+    let single = sort(&mut entries[start..until]);
+    single.then_some(until + (used - end))
 }

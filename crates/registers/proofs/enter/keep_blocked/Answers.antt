@@ -1,5 +1,5 @@
-use Rattle.std.proofs.Common.{◌+◌, ◌<◌, length, sym, ap, ◌∙◌, subst, arith}
-use Rattle.std.proofs.lemmas.List.Filters.{FiltersInPlace, FiltersInPlace-all, FiltersInPlace-more_no, FiltersInPlace-more_set}
+use Rattle.std.proofs.Common.{◌<◌, length, sym, ap, ◌∙◌, arith}
+use Rattle.std.proofs.lemmas.List.Filters.{FiltersInPlace-all, FiltersInPlace-more_no, FiltersInPlace-more_set}
 use Rattle.std.proofs.lemmas.List.{length-take}
 use Rattle.std.proofs.lemmas.List.Sums.{length-filter}
 use Rattle.registers.specs.Entries.{stays_blocked}
@@ -12,7 +12,7 @@ loop-i-preserved g c =
     let is = c.index-own-i.is in
     let here = sym c.stays_blocked.ensures in
     elim c.if-stays_blocked.branch [
-      | then-stays_blocked w ↦ rw (w.own-is, w.count-is) (subst (λ ys. FiltersInPlace (stays_blocked c.args.year) c.args.own.now ys (c.loop-i.count + 1) (c.loop-i.i + 1)) (sym w.put.ensures) (FiltersInPlace-more_set c.loop-i.invariant within (here ∙ w.if-stays_blocked.true) is))
+      | then-stays_blocked w ↦ rw (w.own-is, w.count-is) (FiltersInPlace-more_set c.loop-i.invariant within (here ∙ w.if-stays_blocked.true) is)
       | else-stays_blocked w ↦ rw (w.own-is, w.count-is) (FiltersInPlace-more_no c.loop-i.invariant within (here ∙ w.if-stays_blocked.false) is)
     ]
 

@@ -1,4 +1,4 @@
-use Rattle.std.proofs.Common.{take, None, fold, sym, ap, ◌∙◌}
+use Rattle.std.proofs.Common.{rules, ◌≡◌, take, None, fold, sym, ap, ◌∙◌}
 use Rattle.std.specs.Option.{option_map}
 use Rattle.books.specs.Join.{joined, with_series}
 use Rattle.books.proofs.Nearest.{folded_own, nearest_is}
@@ -9,7 +9,7 @@ unfolding joined
 returns c =
     let book = c.args.self.now in
     let es = take book.series.used book.series.entries.now in
-    let own = c.own.ensures book.series_within book.series_ascend in
-    let value = c.join_among.ensures
-    ∙ ap (option_map (λ x. x.1)) (ap (fold (with_series c.args.one c.args.other) None) own ∙ sym (folded_own c.args.supplier c.args.one c.args.other es None)) in
-    record { value = value; nearest = nearest_is c.args.supplier c.args.one c.args.other es c.join_among.result value }
+    let among = c.join_among.ensures ∙ (ap (fold (with_series c.args.one c.args.other) None) c.own.ensures ∙ sym (folded_own c.args.supplier c.args.one c.args.other es None)) in
+    let mapped : c.map.result ≡ option_map (λ x. x.1) c.join_among.result = search rules in
+    let value = mapped ∙ ap (option_map (λ x. x.1)) among in
+    record { value = value; nearest = nearest_is c.args.supplier c.args.one c.args.other es c.map.result value }

@@ -25,11 +25,11 @@ returns c =
     let year : c.year-year.result ≡ d.head.first_day.year = c.year-year.ensures ∙ ap (λ h. h.first_day.year) c.head-head.ensures.0 in
     let line = line_is c.check.result _ (c.check.ensures ∙ ap (line_fault (take self.lines.used self.lines.lines) self.lines.receipts) c.head-head.ensures.0) in
     let stations = file_judged station_meaning bs _ _ c.files-files.result.stations files.stations _ _ d.head.first_day.year _ _ _ c.check-2.result c.requires.stations year
-    (c.check-2.ensures.first self.stations_within few self.stations_ascend) in
+    (c.check-2.ensures.first few) in
     let series = file_judged series_meaning bs _ _ c.files-files.result.series files.series _ _ d.head.first_day.year _ _ _ c.check-3.result c.requires.series year
-    (c.check-3.ensures.first self.series_within few_series self.series_ascend) in
+    (c.check-3.ensures.first few_series) in
     let tables = file_judged fare_table_meaning bs _ _ c.files-files.result.tables files.tables _ _ d.head.first_day.year _ _ _ c.check-4.result c.requires.tables year
-    (c.check-4.ensures.first self.tables_within few_tables self.tables_ascend) in
+    (c.check-4.ensures.first few_tables) in
     record {
       fault = c.first_fault.ensures ∙ (λ i. first_of (line i) (stations i) (series i) (tables i));
       index = λ ok.
