@@ -35,10 +35,7 @@ mod tests {
             number: 1000,
             key_flag,
         };
-        match check_row(&[field], &context, row) {
-            Ok(()) => None,
-            Err(fault) => Some(fault),
-        }
+        check_row(&[field], &context, row).err()
     }
 
     #[test]

@@ -10,19 +10,14 @@ mod tests {
     const EMPTY: &[u8; 47] = b"30000000000000000000000009207320700812026010101";
 
     fn fault_of(bytes: &[u8]) -> Option<HeadFault> {
-        match read_head(bytes) {
-            Ok(_) => None,
-            Err(fault) => Some(fault),
-        }
+        read_head(bytes).err()
     }
 
-    // Writes a text from a column on, as far as there are columns.
+    // Writes a text from a column on, as far as there are columns. The tests of kinds have these lines too: to share them,
+    // a library would have them as a public function with a contract of its own, which is no plainer.
     fn overwrite(bytes: &mut [u8], column: usize, text: &[u8]) {
-        for (i, byte) in text.iter().enumerate() {
-            let at = column.saturating_sub(1).saturating_add(i);
-            if at < bytes.len() {
-                bytes[at] = *byte;
-            }
+        for (byte, written) in bytes.iter_mut().skip(column.saturating_sub(1)).zip(text) {
+            *byte = *written;
         }
     }
 

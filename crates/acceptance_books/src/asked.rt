@@ -1,13 +1,14 @@
 // Questions to a book, and its answers as text.
 use crate::sent::{SERIES, STATION, Signs, TABLE};
 use books::book::Book;
-use books::find::Found;
+use books::find::{Booked, Found};
 use fields::bytes::number_in;
 use kinds::fare_table::FareTable;
 use kinds::kind::Kind;
 use kinds::series::Series;
 use kinds::station::Station;
 use std::alloc::{AllocError, Global};
+use std::fmt::Display;
 
 // What the rows say whose records are lent to `find`; no script has such a row.
 const LENT: Signs = Signs {
@@ -19,7 +20,19 @@ const LENT: Signs = Signs {
 };
 
 // How a number stands, and what the lent record tells then.
-fn answer(heap: Global, found: Found, lent: String, told: String) -> Result<String, AllocError> {
+fn find_kind<K: Booked<Number = u32> + Drop>(
+    heap: Global,
+    book: &Book<'_>,
+    row: &str,
+    id: (u32, u32),
+) -> Result<String, AllocError>
+where
+    K::Told: Display + Drop,
+{
+    let mut record = K::values(0, LENT.fill(heap, row)?.as_slice()).told();
+    let lent = format!(in heap; "{record}")?;
+    let found = book.find::<K>(id.0, id.1, &mut record);
+    let told = format!(in heap; "{record}")?;
     let told = if told.as_str() == lent.as_str() {
         "as lent"
     } else {
@@ -32,27 +45,6 @@ fn answer(heap: Global, found: Found, lent: String, told: String) -> Result<Stri
     }
 }
 
-fn find_station(heap: Global, book: &Book<'_>, id: (u32, u32)) -> Result<String, AllocError> {
-    let mut told = Station::values(0, LENT.fill(heap, STATION)?.as_slice()).told;
-    let lent = format!(in heap; "{told}")?;
-    let found = book.find::<Station>(id.0, id.1, &mut told);
-    answer(heap, found, lent, format!(in heap; "{told}")?)
-}
-
-fn find_series(heap: Global, book: &Book<'_>, id: (u32, u32)) -> Result<String, AllocError> {
-    let mut told = Series::values(0, LENT.fill(heap, SERIES)?.as_slice()).told;
-    let lent = format!(in heap; "{told}")?;
-    let found = book.find::<Series>(id.0, id.1, &mut told);
-    answer(heap, found, lent, format!(in heap; "{told}")?)
-}
-
-fn find_table(heap: Global, book: &Book<'_>, id: (u32, u32)) -> Result<String, AllocError> {
-    let mut told = FareTable::values(0, LENT.fill(heap, TABLE)?.as_slice()).told;
-    let lent = format!(in heap; "{told}")?;
-    let found = book.find::<FareTable>(id.0, id.1, &mut told);
-    answer(heap, found, lent, format!(in heap; "{told}")?)
-}
-
 // How a number of a supplier stands, of the kind with this letter.
 pub fn find(
     heap: Global,
@@ -61,9 +53,9 @@ pub fn find(
     id: (u32, u32),
 ) -> Result<String, AllocError> {
     match letter {
-        [b'G'] => find_station(heap, book, id),
-        [b'S'] => find_series(heap, book, id),
-        _ => find_table(heap, book, id),
+        [b'G'] => find_kind::<Station>(heap, book, STATION, id),
+        [b'S'] => find_kind::<Series>(heap, book, SERIES, id),
+        _ => find_kind::<FareTable>(heap, book, TABLE, id),
     }
 }
 

@@ -17,6 +17,12 @@ pub const SERIES: &str =
 pub const TABLE: &str =
     "~~~~^^^^!1Tarif ^^^^                    Prix ^^^^                     Preis ^^^^                    Fare ^^^^                                                   0EUR0  10        ^^^^~~~~1001                  ";
 
+// The last five digits of a number.
+fn digits(value: u32) -> [u8; 5] {
+    [value / 10000, value / 1000, value / 100, value / 10, value].map(|part| b'0'
+        + (part % 10) as u8)
+}
+
 // What the signs stand for.
 #[derive(Clone, Copy)]
 pub struct Signs {
@@ -44,18 +50,11 @@ impl Signs {
     // A text with digits in place of its signs.
     pub fn fill(&self, heap: Global, text: &str) -> Result<Vec<u8>, AllocError> {
         let mut bytes = Vec::new(heap);
-        let mut unit = 10000u32;
-        let mut before = b' ';
-        for byte in text.as_bytes() {
-            if *byte != before {
-                unit = 10000;
+        for run in text.as_bytes().chunk_by(|one, next| one == next) {
+            match run.first().and_then(|sign| self.value(*sign)) {
+                Some(value) => bytes.extend(digits(value).iter().take(run.len()))?,
+                None => bytes.extend_from_slice(run)?,
             }
-            match self.value(*byte) {
-                Some(value) => bytes.push(b'0' + (value / unit.max(1) % 10) as u8)?,
-                None => bytes.push(*byte)?,
-            }
-            unit = unit / 10;
-            before = *byte;
         }
         Ok(bytes)
     }
@@ -93,10 +92,11 @@ fn edit(row: &mut Vec<u8>, edits: &str) -> Option<()> {
     }
     for one in edits.split(", ") {
         let (column, text) = one.split_once(" ")?;
-        let column = number_in(column.as_bytes(), 1, 3) as usize;
-        for (i, byte) in text.as_bytes().iter().enumerate() {
-            *row.get_mut(column.wrapping_add(i).wrapping_sub(1))? = *byte;
-        }
+        let start = (number_in(column.as_bytes(), 1, 3) as usize).checked_sub(1)?;
+        let end = start.checked_add(text.len())?;
+        row.as_mut_slice()
+            .get_mut(start..end)?
+            .copy_from_slice(text.as_bytes());
     }
     Some(())
 }
@@ -106,12 +106,13 @@ fn word_number(word: Option<&str>) -> u32 {
 }
 
 fn filled(heap: Global, letter: &[u8], signs: &Signs) -> Option<Vec<u8>> {
-    match letter {
-        [b'G'] => signs.fill(heap, STATION).ok(),
-        [b'S'] => signs.fill(heap, SERIES).ok(),
-        [b'P'] => signs.fill(heap, TABLE).ok(),
-        _ => None,
-    }
+    let row = match letter {
+        [b'G'] => STATION,
+        [b'S'] => SERIES,
+        [b'P'] => TABLE,
+        _ => return None,
+    };
+    signs.fill(heap, row).ok()
 }
 
 // Adds what a row stands for, and answers how many rows that are.
@@ -171,11 +172,9 @@ pub fn delivery(heap: Global, line: &str) -> Option<Vec<u8>> {
     let size = body.len();
     let counts = format!(in heap; "3{size:08}{stations:05}{series:05}{tables:05}092073207").ok()?;
     let mut bytes = Vec::from_slice(heap, counts.as_bytes()).ok()?;
-    for byte in head.as_bytes() {
-        if *byte != b' ' {
-            bytes.push(*byte).ok()?;
-        }
-    }
+    bytes
+        .extend(head.bytes().filter(|byte| *byte != b' '))
+        .ok()?;
     bytes.extend_from_slice(body.as_slice()).ok()?;
     Some(bytes)
 }

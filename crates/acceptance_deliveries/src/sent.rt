@@ -12,6 +12,12 @@ const SERIES: &str = "0081$$$$$030#####01Place %%%%%      0@@@@@02Place &&&&&   
 const TABLE: &str =
     "0081^^^^01Tarif ^^^^                    Prix ^^^^                     Preis ^^^^                    Fare ^^^^                                                   0EUR0  10        ^^^^00811001                  ";
 
+// The last five digits of a number.
+fn digits(value: usize) -> [u8; 5] {
+    [value / 10000, value / 1000, value / 100, value / 10, value].map(|part| b'0'
+        + (part % 10) as u8)
+}
+
 // What a sign stands for in row k, by its last five digits. Numbers come in no order, and no two are the same.
 fn value(sign: u8, k: usize, stations: usize) -> Option<usize> {
     let next = k.wrapping_add(1) % stations.max(1);
@@ -27,18 +33,12 @@ fn value(sign: u8, k: usize, stations: usize) -> Option<usize> {
     }
 }
 
+// Adds row k of a file: each run of one sign stands for as many digits, and all else for itself.
 fn add_row(bytes: &mut Vec<u8>, row: &str, k: usize, stations: usize) -> Result<(), AllocError> {
-    let mut unit = 10000usize;
-    for byte in row.as_bytes() {
-        match value(*byte, k, stations) {
-            Some(value) => {
-                bytes.push(b'0' + (value / unit.max(1) % 10) as u8)?;
-                unit = unit / 10;
-            }
-            None => {
-                bytes.push(*byte)?;
-                unit = 10000;
-            }
+    for run in row.as_bytes().chunk_by(|one, next| one == next) {
+        match run.first().and_then(|sign| value(*sign, k, stations)) {
+            Some(value) => bytes.extend(digits(value).iter().take(run.len()))?,
+            None => bytes.extend_from_slice(run)?,
         }
     }
     Ok(())
@@ -60,9 +60,7 @@ pub fn delivery(heap: Global, head: &str) -> Result<Vec<u8>, AllocError> {
     for (row, count, length) in files {
         for k in 0..count as usize {
             add_row(&mut bytes, row, k, stations as usize)?;
-            for column in row.len()..length as usize {
-                bytes.push((column % 256) as u8)?;
-            }
+            bytes.extend((row.len()..length as usize).map(|column| (column % 256) as u8))?;
         }
     }
     Ok(bytes)

@@ -1,6 +1,5 @@
 // Fare tables: every field damaged in turn, compared and taken over.
-use crate::rows::{fault_of, overwrite, record_of};
-use fields::fault::FieldFault;
+use crate::rows::{Comparison, Damage, overwrite, record_of, try_compared, try_damaged};
 use fields::fault::FieldFault::{NotAllowed, NotEqual, NotOfType};
 use kinds::fare_table::FareTable;
 use kinds::kind::Kind;
@@ -9,7 +8,7 @@ use std::test::Fail;
 const ROW: &[u8; 207] =
     b"0081100001Normalpreis                   Plein tarif                   Normalpreis                   Full fare                                                   0EUR0  10        100000811001                  ";
 
-static DAMAGED: [(usize, &'static [u8], Option<FieldFault>); 38] = [
+static DAMAGED: [Damage; 38] = [
     (1, b"0082", Some(NotEqual(1))),
     (5, b"0999", Some(NotAllowed(2))),
     (5, b"1001", Some(NotEqual(20))),
@@ -52,14 +51,10 @@ static DAMAGED: [(usize, &'static [u8], Option<FieldFault>); 38] = [
 
 #[test]
 fn damaged_rows(rt: HostRuntime) {
-    for (column, text, fault) in DAMAGED {
-        let mut row = *ROW;
-        overwrite(&mut row, column, text);
-        assert_eq!(rt; fault_of::<FareTable>(&row), fault);
-    }
+    try_damaged::<FareTable, _>(&rt, ROW, &DAMAGED);
 }
 
-static COMPARED: [(usize, &'static [u8], usize, &'static [u8], Option<u8>); 25] = [
+static COMPARED: [Comparison; 25] = [
     (9, b"0", 9, b"0", None),
     (10, b"2", 9, b"0", Some(4)),
     (10, b"2", 161, b"3", Some(4)),
@@ -87,17 +82,9 @@ static COMPARED: [(usize, &'static [u8], usize, &'static [u8], Option<u8>); 25] 
     (9, b"2", 186, b"2000", None),
 ];
 
-// Two edits of a newer row, and the first field at fault beside the older row.
 #[test]
 fn compared(rt: HostRuntime) {
-    let older = record_of::<FareTable>(ROW).told();
-    for (column, text, other, more, fault) in COMPARED {
-        let mut row = *ROW;
-        overwrite(&mut row, column, text);
-        overwrite(&mut row, other, more);
-        assert_eq!(rt; fault_of::<FareTable>(&row), None);
-        assert_eq!(rt; record_of::<FareTable>(&row).compare(&older), fault);
-    }
+    try_compared::<FareTable, _>(&rt, ROW, &COMPARED);
 }
 
 #[test]

@@ -1,6 +1,5 @@
 // Series: every field damaged in turn, compared and taken over.
-use crate::rows::{fault_of, overwrite, record_of};
-use fields::fault::FieldFault;
+use crate::rows::{Comparison, Damage, overwrite, record_of, try_compared, try_damaged};
 use fields::fault::FieldFault::{NotAllowed, NotEqual, NotOfType};
 use kinds::kind::Kind;
 use kinds::order::comes_later;
@@ -9,7 +8,7 @@ use std::test::Fail;
 
 const ROW: &[u8; 73] = b"0081013010300711501Wien Hbf         00720002Salzburg Hbf     011122+0B0S0";
 
-static DAMAGED: [(usize, &'static [u8], Option<FieldFault>); 42] = [
+static DAMAGED: [Damage; 42] = [
     (1, b"0082", Some(NotEqual(1))),
     (5, b"0130A", Some(NotOfType(2))),
     (10, b"3", Some(NotAllowed(3))),
@@ -56,14 +55,10 @@ static DAMAGED: [(usize, &'static [u8], Option<FieldFault>); 42] = [
 
 #[test]
 fn damaged_rows(rt: HostRuntime) {
-    for (column, text, fault) in DAMAGED {
-        let mut row = *ROW;
-        overwrite(&mut row, column, text);
-        assert_eq!(rt; fault_of::<Series>(&row), fault);
-    }
+    try_damaged::<Series, _>(&rt, ROW, &DAMAGED);
 }
 
-static COMPARED: [(usize, &'static [u8], usize, &'static [u8], Option<u8>); 36] = [
+static COMPARED: [Comparison; 36] = [
     (10, b"0", 10, b"0", None),
     (11, b"1", 12, b"3", None),
     (11, b"1", 12, b"0", Some(5)),
@@ -102,17 +97,9 @@ static COMPARED: [(usize, &'static [u8], usize, &'static [u8], Option<u8>); 36] 
     (10, b"2", 72, b" ", Some(21)),
 ];
 
-// Two edits of a newer row, and the first field at fault beside the older row.
 #[test]
 fn compared(rt: HostRuntime) {
-    let older = record_of::<Series>(ROW).told();
-    for (column, text, other, more, fault) in COMPARED {
-        let mut row = *ROW;
-        overwrite(&mut row, column, text);
-        overwrite(&mut row, other, more);
-        assert_eq!(rt; fault_of::<Series>(&row), None);
-        assert_eq!(rt; record_of::<Series>(&row).compare(&older), fault);
-    }
+    try_compared::<Series, _>(&rt, ROW, &COMPARED);
 }
 
 #[test]

@@ -1,6 +1,5 @@
 // Stations: every field damaged in turn, compared and taken over.
-use crate::rows::{fault_of, overwrite, record_of};
-use fields::fault::FieldFault;
+use crate::rows::{Comparison, Damage, fault_of, overwrite, record_of, try_compared, try_damaged};
 use fields::fault::FieldFault::{NotAllowed, NotEqual, NotOfType};
 use kinds::kind::Kind;
 use kinds::station::Station;
@@ -9,7 +8,7 @@ use std::test::Fail;
 const ROW: &[u8; 92] =
     b"008107115012345Wien Hauptbahnhof                  0Wien Hbf         0Wien             000420";
 
-static DAMAGED: [(usize, &'static [u8], Option<FieldFault>); 38] = [
+static DAMAGED: [Damage; 38] = [
     (1, b"0081", None),
     (1, b"0082", Some(NotEqual(1))),
     (1, b" 081", Some(NotOfType(1))),
@@ -56,14 +55,10 @@ static DAMAGED: [(usize, &'static [u8], Option<FieldFault>); 38] = [
 
 #[test]
 fn damaged_rows(rt: HostRuntime) {
-    for (column, text, fault) in DAMAGED {
-        let mut row = *ROW;
-        overwrite(&mut row, column, text);
-        assert_eq!(rt; fault_of::<Station>(&row), fault);
-    }
+    try_damaged::<Station, _>(&rt, ROW, &DAMAGED);
 }
 
-static COMPARED: [(usize, &'static [u8], usize, &'static [u8], Option<u8>); 18] = [
+static COMPARED: [Comparison; 18] = [
     (10, b"0", 10, b"0", None),
     (88, b"0043", 92, b"3", None),
     (88, b"0043", 92, b"0", Some(12)),
@@ -84,17 +79,9 @@ static COMPARED: [(usize, &'static [u8], usize, &'static [u8], Option<u8>); 18] 
     (10, b"1", 88, b"0001", None),
 ];
 
-// Two edits of a newer row, and the first field at fault beside the older row.
 #[test]
 fn compared(rt: HostRuntime) {
-    let older = record_of::<Station>(ROW).told();
-    for (column, text, other, more, fault) in COMPARED {
-        let mut row = *ROW;
-        overwrite(&mut row, column, text);
-        overwrite(&mut row, other, more);
-        assert_eq!(rt; fault_of::<Station>(&row), None);
-        assert_eq!(rt; record_of::<Station>(&row).compare(&older), fault);
-    }
+    try_compared::<Station, _>(&rt, ROW, &COMPARED);
 }
 
 #[test]

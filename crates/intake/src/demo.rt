@@ -1,6 +1,6 @@
 // The demonstration: heads, rows and whole deliveries are read, refused, compared and taken over, a line a step.
+use crate::reading::Reading;
 use crate::status::Status;
-use deliveries::delivery::Delivery;
 use kinds::kind::Kind;
 use kinds::station::Station;
 use std::io;
@@ -44,62 +44,59 @@ const LEFT_BEHIND: &str = "\
 
 // What becomes of a delivery.
 fn answer(rt: &HostRuntime, delivery: &str) -> io::Result<()> {
-    let mut place = Delivery::empty();
-    match place.read(delivery.as_bytes()) {
-        Ok(()) => {
-            let head = place.head();
-            println!(rt; "  read {head}")
-        }
-        Err(fault) => println!(rt; "  refused {fault}"),
-    }
-}
-
-fn tell_head(rt: &HostRuntime, text: &str, delivery: &str) -> io::Result<()> {
-    println!(rt; "{text}")?;
-    println!(rt; "  {delivery}")?;
-    answer(rt, delivery)
-}
-
-fn files(rt: &HostRuntime) -> io::Result<()> {
-    println!(rt;
-        "A whole delivery: Wien Hbf and the series from it to Linz Hbf leave together, and Linz Hbf stays:"
-    )?;
-    answer(rt, LEAVING)?;
-    println!(rt;
-        "Had the series stayed, it would depart from a station that no buyer holds any more:"
-    )?;
-    answer(rt, LEFT_BEHIND)
+    println!(rt; "  {}", Reading::of(delivery.as_bytes()))
 }
 
 fn heads(rt: &HostRuntime) -> io::Result<()> {
     println!(rt;
         "A carrier sends its tariff data as one file, a delivery, that begins with a head of 47 bytes."
     )?;
-    tell_head(
-        rt,
-        "Supplier 0081 sends its first delivery of 2026, still without rows:",
-        EMPTY,
-    )?;
-    tell_head(
-        rt,
-        "Its next one claims station rows of 91 bytes, one too few:",
-        SHORT_ROWS,
-    )?;
-    tell_head(
-        rt,
-        "This one begins on 29 February 2100, which is no day of the calendar:",
-        NO_DAY,
-    )?;
-    tell_head(
-        rt,
-        "This one promises a station row of 92 bytes that is not there:",
-        NO_ROW,
-    )?;
-    tell_head(
-        rt,
-        "And this one ends in the middle of its head:",
-        &EMPTY[0..30],
-    )
+    let told = [
+        (
+            "Supplier 0081 sends its first delivery of 2026, still without rows:",
+            EMPTY,
+        ),
+        (
+            "Its next one claims station rows of 91 bytes, one too few:",
+            SHORT_ROWS,
+        ),
+        (
+            "This one begins on 29 February 2100, which is no day of the calendar:",
+            NO_DAY,
+        ),
+        (
+            "This one promises a station row of 92 bytes that is not there:",
+            NO_ROW,
+        ),
+        (
+            "And this one ends in the middle of its head:",
+            &EMPTY[0..30],
+        ),
+    ];
+    for (text, delivery) in told {
+        println!(rt; "{text}")?;
+        println!(rt; "  {delivery}")?;
+        answer(rt, delivery)?;
+    }
+    Ok(())
+}
+
+fn files(rt: &HostRuntime) -> io::Result<()> {
+    let told = [
+        (
+            "A whole delivery: Wien Hbf and the series from it to Linz Hbf leave together, and Linz Hbf stays:",
+            LEAVING,
+        ),
+        (
+            "Had the series stayed, it would depart from a station that no buyer holds any more:",
+            LEFT_BEHIND,
+        ),
+    ];
+    for (text, delivery) in told {
+        println!(rt; "{text}")?;
+        answer(rt, delivery)?;
+    }
+    Ok(())
 }
 
 // Reads a row of supplier 0081 into a station, or tells why not.
@@ -130,19 +127,23 @@ fn rows(rt: &HostRuntime) -> io::Result<()> {
     }
     let mut held = station.told();
     println!(rt; "  {held}")?;
-    println!(rt; "In the next version the station is in zone 42, and the zone's flag says so:")?;
-    if tell_row(rt, &mut station, FLAGGED)? {
-        tell_flags(rt, station.compare(&held))?;
-        held = station.take_over(&held);
-        println!(rt; "  {held}")?;
-    }
-    println!(rt;
-        "Then it moves to zone 43 and no flag says so. A buyer would still hold zone 42:"
-    )?;
-    if tell_row(rt, &mut station, UNFLAGGED)? {
-        tell_flags(rt, station.compare(&held))?;
-        held = station.take_over(&held);
-        println!(rt; "  {held}")?;
+    let amended = [
+        (
+            "In the next version the station is in zone 42, and the zone's flag says so:",
+            FLAGGED,
+        ),
+        (
+            "Then it moves to zone 43 and no flag says so. A buyer would still hold zone 42:",
+            UNFLAGGED,
+        ),
+    ];
+    for (text, row) in amended {
+        println!(rt; "{text}")?;
+        if tell_row(rt, &mut station, row)? {
+            tell_flags(rt, station.compare(&held))?;
+            held = station.take_over(&held);
+            println!(rt; "  {held}")?;
+        }
     }
     println!(rt; "A row whose name begins with a blank is not read at all:")?;
     let _ = tell_row(rt, &mut station, DAMAGED)?;

@@ -2,11 +2,12 @@
 #![tactic(auto)]
 
 mod demo;
+mod reading;
 mod script;
 mod session;
 mod status;
 
-use deliveries::delivery::Delivery;
+use reading::Reading;
 use status::Status;
 use std::process::ExitCode;
 use std::{env, fs, io};
@@ -36,18 +37,13 @@ fn check(rt: &HostRuntime, path: &str) -> io::Result<Status> {
             return Ok(Status::Failed);
         }
     };
-    let mut delivery = Delivery::empty();
-    match delivery.read(bytes.as_slice()) {
-        Ok(()) => {
-            let head = delivery.head();
-            println!(rt; "{path}: read {head}")?;
-            Ok(Status::Done)
-        }
-        Err(fault) => {
-            println!(rt; "{path}: refused {fault}")?;
-            Ok(Status::Failed)
-        }
-    }
+    let reading = Reading::of(bytes.as_slice());
+    println!(rt; "{path}: {reading}")?;
+    Ok(if reading.is_read() {
+        Status::Done
+    } else {
+        Status::Failed
+    })
 }
 
 fn check_all(rt: &HostRuntime, paths: env::Args) -> io::Result<Status> {

@@ -1,5 +1,5 @@
 // The commands of a script, one a line.
-use std::str::SplitWhitespace;
+use std::str::{FromStr, SplitWhitespace};
 
 // How many entries each run of the book has room for.
 #[derive(Clone, Copy)]
@@ -23,6 +23,23 @@ pub enum Letter {
     FareTable,
 }
 
+// No kind has this letter.
+#[derive(Clone, Copy)]
+pub struct NoKind;
+
+impl FromStr for Letter {
+    type Err = NoKind;
+
+    fn from_str(word: &str) -> Result<Letter, NoKind> {
+        match word {
+            "G" => Ok(Letter::Station),
+            "S" => Ok(Letter::Series),
+            "P" => Ok(Letter::FareTable),
+            _ => Err(NoKind),
+        }
+    }
+}
+
 #[derive(Clone, Copy)]
 pub enum Command<'a> {
     // a blank line or a remark
@@ -39,54 +56,37 @@ pub enum Command<'a> {
 // The number that a word of so many digits at most writes.
 fn number(word: Option<&str>, most: usize) -> Option<u32> {
     let word = word?;
-    for byte in word.bytes() {
-        if !byte.is_ascii_digit() {
-            return None;
-        }
-    }
-    if word.len() > most {
-        return None;
-    }
-    word.parse::<u32>().ok()
-}
-
-fn supplier(word: Option<&str>) -> Option<u32> {
-    let word = word?;
-    if word.len() == 4 {
-        number(Some(word), 4)
+    if word.len() <= most && word.bytes().all(|byte| byte.is_ascii_digit()) {
+        word.parse().ok()
     } else {
         None
     }
 }
 
-fn kind_named(word: Option<&str>) -> Option<Letter> {
-    match word? {
-        "G" => Some(Letter::Station),
-        "S" => Some(Letter::Series),
-        "P" => Some(Letter::FareTable),
-        _ => None,
-    }
+fn supplier(word: Option<&str>) -> Option<u32> {
+    number(word.filter(|word| word.len() == 4), 4)
 }
 
-fn open(mut words: SplitWhitespace<'_>) -> Option<Rooms> {
+// Whether the words end here.
+fn end(mut words: SplitWhitespace<'_>) -> Option<()> {
+    words.next().is_none().then_some(())
+}
+
+fn open<'a>(mut words: SplitWhitespace<'_>) -> Option<Command<'a>> {
     let rooms = Rooms {
         stations: number(words.next(), 9)? as usize,
         series: number(words.next(), 9)? as usize,
         tables: number(words.next(), 9)? as usize,
     };
-    if words.next().is_some() {
-        return None;
-    }
-    Some(rooms)
+    end(words)?;
+    Some(Command::Open(rooms))
 }
 
 fn find<'a>(mut words: SplitWhitespace<'_>) -> Option<Command<'a>> {
-    let letter = kind_named(words.next())?;
+    let letter = words.next()?.parse().ok()?;
     let supplier = supplier(words.next())?;
     let number = number(words.next(), 5)?;
-    if words.next().is_some() {
-        return None;
-    }
+    end(words)?;
     Some(Command::Find(letter, supplier, number))
 }
 
@@ -94,9 +94,7 @@ fn join<'a>(mut words: SplitWhitespace<'_>) -> Option<Command<'a>> {
     let supplier = supplier(words.next())?;
     let one = number(words.next(), 5)?;
     let other = number(words.next(), 5)?;
-    if words.next().is_some() {
-        return None;
-    }
+    end(words)?;
     Some(Command::Join(supplier, one, other))
 }
 
@@ -116,18 +114,13 @@ pub fn parse(line: &str) -> Result<Command<'_>, &'static str> {
         return Ok(Command::Nothing);
     }
     match first {
-        "open" => match open(words) {
-            Some(rooms) => Ok(Command::Open(rooms)),
-            None => Err("open takes three run lengths: open G S P"),
-        },
-        "read" => match path(line) {
-            Some(path) => Ok(Command::Read(path)),
-            None => Err("read takes a file: read PATH"),
-        },
-        "admit" => match path(line) {
-            Some(path) => Ok(Command::Admit(path)),
-            None => Err("admit takes a file: admit PATH"),
-        },
+        "open" => open(words).ok_or("open takes three run lengths: open G S P"),
+        "read" => path(line)
+            .map(Command::Read)
+            .ok_or("read takes a file: read PATH"),
+        "admit" => path(line)
+            .map(Command::Admit)
+            .ok_or("admit takes a file: admit PATH"),
         "find" => find(words).ok_or(
             "find takes a kind G, S or P, a supplier of four digits and a number: find K SSSS N",
         ),

@@ -2,19 +2,20 @@
 ghost use Rattle.registers.specs.declared.entry.Standing.TheVariants.{Retired};
 ghost use Rattle.std.specs.Prelude.{◌≡◌};
 
+use crate::reading::Reading;
 use crate::script::{Command, FIRST_ROOMS, Letter, Rooms, parse};
 use crate::status::Status;
 use books::book::Book;
 use books::find::{Booked, Found};
 use deliveries::delivery::Delivery;
-use kinds::fare_table::FareTable;
+use kinds::fare_table::{FareTable, FareTableTold};
 use kinds::kind::Kind;
-use kinds::series::Series;
-use kinds::station::Station;
+use kinds::series::{Series, SeriesTold};
+use kinds::station::{Station, StationTold};
 use registers::entry::{Entry, Id, Standing};
 use std::alloc::{AllocError, Global};
 use std::fmt::Display;
-use std::{fs, io};
+use std::{fs, io, iter};
 
 // An entry of a run that no book has filled yet.
 pub fn vacant<T: Copy>() -> Entry<u32, T>
@@ -29,23 +30,34 @@ pub fn vacant<T: Copy>() -> Entry<u32, T>
     }
 }
 
-// A run of so many entries for a book to fill.
-fn run_of<T: Copy + Clone + Drop>(
-    heap: Global,
-    room: usize,
-) -> Result<Vec<Entry<u32, T>>, AllocError> {
-    vec![in heap; vacant(); room]
+// The runs that are lent to a book.
+#[derive(Drop)]
+struct Runs {
+    stations: Vec<Entry<u32, StationTold>>,
+    series: Vec<Entry<u32, SeriesTold>>,
+    tables: Vec<Entry<u32, FareTableTold>>,
+}
+
+impl Runs {
+    fn new(heap: Global, rooms: Rooms) -> Result<Runs, AllocError> {
+        Ok(Runs {
+            stations: vec![in heap; vacant(); rooms.stations]?,
+            series: vec![in heap; vacant(); rooms.series]?,
+            tables: vec![in heap; vacant(); rooms.tables]?,
+        })
+    }
+
+    fn book(&mut self) -> Book<'_> {
+        Book::open(
+            self.stations.as_mut_slice(),
+            self.series.as_mut_slice(),
+            self.tables.as_mut_slice(),
+        )
+    }
 }
 
 fn read(rt: &HostRuntime, bytes: &[u8]) -> io::Result<()> {
-    let mut delivery = Delivery::empty();
-    match delivery.read(bytes) {
-        Ok(()) => {
-            let head = delivery.head();
-            println!(rt; "read {head}")
-        }
-        Err(fault) => println!(rt; "refused {fault}"),
-    }
+    println!(rt; "{}", Reading::of(bytes))
 }
 
 pub fn admit(rt: &HostRuntime, book: &mut Book<'_>, bytes: &[u8]) -> io::Result<()> {
@@ -59,8 +71,18 @@ pub fn admit(rt: &HostRuntime, book: &mut Book<'_>, bytes: &[u8]) -> io::Result<
     }
 }
 
-fn answer(rt: &HostRuntime, found: Found, told: impl Display + Drop) -> io::Result<()> {
-    match found {
+// How a number of a supplier stands, and what the record tells where it is live.
+fn find_kind<K: Booked<Number = u32> + Drop>(
+    rt: &HostRuntime,
+    book: &Book<'_>,
+    supplier: u32,
+    number: u32,
+) -> io::Result<()>
+where
+    K::Told: Display + Drop,
+{
+    let mut told = K::values(0, &[]).told();
+    match book.find::<K>(supplier, number, &mut told) {
         Found::Live => println!(rt; "live {told}"),
         Found::Retired((year, free)) => println!(rt; "retired {year} free {free}"),
         Found::Unknown => println!(rt; "unknown"),
@@ -75,21 +97,9 @@ pub fn find(
     number: u32,
 ) -> io::Result<()> {
     match letter {
-        Letter::Station => {
-            let mut told = Station::values(0, &[]).told();
-            let found = book.find::<Station>(supplier, number, &mut told);
-            answer(rt, found, told)
-        }
-        Letter::Series => {
-            let mut told = Series::values(0, &[]).told();
-            let found = book.find::<Series>(supplier, number, &mut told);
-            answer(rt, found, told)
-        }
-        Letter::FareTable => {
-            let mut told = FareTable::values(0, &[]).told();
-            let found = book.find::<FareTable>(supplier, number, &mut told);
-            answer(rt, found, told)
-        }
+        Letter::Station => find_kind::<Station>(rt, book, supplier, number),
+        Letter::Series => find_kind::<Series>(rt, book, supplier, number),
+        Letter::FareTable => find_kind::<FareTable>(rt, book, supplier, number),
     }
 }
 
@@ -106,105 +116,101 @@ pub fn join(
     }
 }
 
-// A file's bytes; where it cannot be read, the line is answered with the reason.
-fn bytes_of(rt: &HostRuntime, line: usize, path: &str) -> io::Result<Option<Vec<u8>>> {
+// Takes a step with a file's bytes; where it cannot be read, the line is answered with the reason.
+fn with_file<F: FnOnce(&[u8]) -> io::Result<()> + Drop>(
+    rt: &HostRuntime,
+    line: usize,
+    path: &str,
+    step: F,
+) -> io::Result<Status>
+    requires { F.IsAlwaysCallable step }
+{
     match fs::read(rt, path) {
-        Ok(bytes) => Ok(Some(bytes)),
+        Ok(bytes) => {
+            step(bytes.as_slice())?;
+            Ok(Status::Done)
+        }
         Err(error) => {
             println!(rt; "error line {line}: {path}: {error}")?;
-            Ok(None)
+            Ok(Status::Failed)
         }
     }
 }
 
-// Carries out a command that needs no other book.
-fn carry_out(
-    rt: &HostRuntime,
-    book: &mut Book<'_>,
-    line: usize,
-    command: Command<'_>,
-) -> io::Result<Status> {
-    match command {
-        Command::Nothing | Command::Open(_) => {}
-        Command::Read(path) => match bytes_of(rt, line, path)? {
-            Some(bytes) => read(rt, bytes.as_slice())?,
-            None => return Ok(Status::Failed),
-        },
-        Command::Admit(path) => match bytes_of(rt, line, path)? {
-            Some(bytes) => admit(rt, book, bytes.as_slice())?,
-            None => return Ok(Status::Failed),
-        },
-        Command::Find(letter, supplier, number) => find(rt, book, letter, supplier, number)?,
-        Command::Join(supplier, one, other) => join(rt, book, supplier, one, other)?,
-    }
-    Ok(Status::Done)
-}
-
-// What a book was used for: the line that opens the next one, if any, with its rooms.
+// A line of a script, by its number, and its command or what is wrong with it.
 #[derive(Clone, Copy)]
-struct Ended {
-    next: Option<(usize, Rooms)>,
-    status: Status,
+struct Line<'a> {
+    number: usize,
+    command: Result<Command<'a>, &'static str>,
 }
 
-// Carries out the lines from one on, up to the line that opens another book.
-fn use_book(
-    rt: &HostRuntime,
-    book: &mut Book<'_>,
-    lines: &[&str],
-    from: usize,
-) -> io::Result<Ended> {
-    let mut status = Status::Done;
-    for i in from..lines.len() {
-        let line = i.saturating_add(1);
-        match parse(lines[i]) {
-            Ok(Command::Open(rooms)) => {
-                let next = Some((line, rooms));
-                return Ok(Ended { next, status });
-            }
-            Ok(command) => {
-                status = status.and(carry_out(rt, book, line, command)?);
-            }
-            Err(reason) => {
-                println!(rt; "error line {line}: {reason}")?;
-                status = Status::Failed;
-            }
+impl Line<'_> {
+    // The rooms of the book that the line opens, if it opens one.
+    fn rooms(&self) -> Option<Rooms> {
+        match self.command {
+            Ok(Command::Open(rooms)) => Some(rooms),
+            _ => None,
         }
     }
-    Ok(Ended { next: None, status })
 }
 
-// Opens a book with room for so many entries and carries out the lines from one on.
-fn open_book(rt: &HostRuntime, lines: &[&str], from: usize, rooms: Rooms) -> io::Result<Ended> {
-    let heap = rt.alloc();
-    let mut stations = run_of(heap, rooms.stations)?;
-    let mut series = run_of(heap, rooms.series)?;
-    let mut tables = run_of(heap, rooms.tables)?;
-    if from > 0 {
+// Carries out a line that opens no book.
+fn carry_out(rt: &HostRuntime, book: &mut Book<'_>, line: &Line<'_>) -> io::Result<Status> {
+    match line.command {
+        Ok(Command::Nothing | Command::Open(_)) => Ok(Status::Done),
+        Ok(Command::Read(path)) => with_file(rt, line.number, path, |bytes| read(rt, bytes)),
+        Ok(Command::Admit(path)) => with_file(
+            rt,
+            line.number,
+            path,
+            |bytes| admit(rt, book, bytes),
+        ),
+        Ok(Command::Find(letter, supplier, number)) => {
+            find(rt, book, letter, supplier, number)?;
+            Ok(Status::Done)
+        }
+        Ok(Command::Join(supplier, one, other)) => {
+            join(rt, book, supplier, one, other)?;
+            Ok(Status::Done)
+        }
+        Err(reason) => {
+            println!(rt; "error line {}: {reason}", line.number)?;
+            Ok(Status::Failed)
+        }
+    }
+}
+
+// Carries out some lines with a book of their own. The first book of a script is opened by no line.
+fn use_book(rt: &HostRuntime, opened: Option<Rooms>, lines: &[Line<'_>]) -> io::Result<Status> {
+    let mut runs = Runs::new(rt.alloc(), opened.unwrap_or(FIRST_ROOMS))?;
+    if opened.is_some() {
         println!(rt; "opened")?;
     }
-    let mut book = Book::open(
-        stations.as_mut_slice(),
-        series.as_mut_slice(),
-        tables.as_mut_slice(),
-    );
-    use_book(rt, &mut book, lines, from)
+    let mut book = runs.book();
+    let mut status = Status::Done;
+    for line in lines {
+        status = status.and(carry_out(rt, &mut book, line)?);
+    }
+    Ok(status)
 }
 
 pub fn run(rt: &HostRuntime, script: &str) -> io::Result<Status> {
-    let lines: Vec<&str> = script.lines().collect(rt.alloc())?;
-    let mut from = 0;
-    let mut rooms = FIRST_ROOMS;
+    let lines: Vec<Line<'_>> = script
+        .lines()
+        .enumerate()
+        .map(|(i, text)| Line {
+            number: i.saturating_add(1),
+            command: parse(text),
+        })
+        .collect(rt.alloc())?;
+    let opened = lines
+        .iter()
+        .map(|line| line.rooms())
+        .filter(|rooms| rooms.is_some());
+    let books = lines.as_slice().split(|line| line.rooms().is_some());
     let mut status = Status::Done;
-    // each turn but the last opens a book by a line of its own
-    for _ in 0..=lines.len() {
-        let ended = open_book(rt, lines.as_slice(), from, rooms)?;
-        status = status.and(ended.status);
-        let Some((line, next)) = ended.next else {
-            break;
-        };
-        from = line;
-        rooms = next;
+    for (rooms, lines) in iter::once(None).chain(opened).zip(books) {
+        status = status.and(use_book(rt, rooms, lines)?);
     }
     Ok(status)
 }

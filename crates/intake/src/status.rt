@@ -1,4 +1,4 @@
-// How a command ended.
+// How a command ended. It is no Result, since by `?` a file that is refused would end the reading of the others.
 ghost use Rattle.intake.specs.Outcome.{both};
 ghost use Rattle.std.specs.Prelude.{◌≡◌};
 
