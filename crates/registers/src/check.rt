@@ -67,7 +67,8 @@ fn lacks_row<K: Kind>(entry: &Entry<K::Number, K::Told>, places: &[Place<K::Numb
     }
 }
 
-// The first of a supplier's own entries that is live and has no row. The places are those of the rows' numbers, sorted.
+// The first of a supplier's own entries that is live and has no row. The places are those of the rows' numbers, sorted. A
+// `find` would need a `match` on what it found, and say no less.
 fn check_missing<K: Kind>(
     own: &[Entry<K::Number, K::Told>],
     places: &[Place<K::Number>],

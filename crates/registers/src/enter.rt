@@ -18,7 +18,8 @@ use kinds::kind::Kind;
 use std::cmp::Ord;
 use std::ops::Range;
 
-// Moves the entries that are still blocked to the front, and answers how many they are.
+// Moves the entries that are still blocked to the front, and answers how many they are; by index, since a proof does not know
+// what is written through an iterator.
 fn keep_blocked<N: Copy, T: Copy>(own: &mut [Entry<N, T>], year: u16) -> usize
     ensures count { result ≡ count_by (stays_blocked year) own.old }
     ensures front { take result own.new ≡ filter (stays_blocked year) own.old }
@@ -32,6 +33,19 @@ fn keep_blocked<N: Copy, T: Copy>(own: &mut [Entry<N, T>], year: u16) -> usize
         }
     }
     count
+}
+
+// Copies the elements from one place up to another, so that they begin at a third. Where they stand there already nothing is
+// copied: most admissions leave later suppliers' entries where they are, and these may be many.
+fn shift<X: Copy>(xs: &mut [X], from: usize, until: usize, to: usize)
+    requires ends { (from ≤ until) × (until ≤ length xs.old) }
+    requires room { to + (until - from) ≤ length xs.old }
+    ensures front { take to xs.new ≡ take to xs.old }
+    ensures moved { part to (to + (until - from)) xs.new ≡ part from until xs.old }
+{
+    if from != to {
+        xs.copy_within(from..until, to);
+    }
 }
 
 // The entry that a record makes.
@@ -124,7 +138,7 @@ pub(crate) fn replace_own<K: Kind>(
     let Range { start, end } = own;
     let blocked = keep_blocked(&mut entries[start..end], year);
     let until = start + blocked + places.len();
-    entries.copy_within(end..used, until);
+    shift(entries, end, used, until);
     merge::<K>(&mut entries[start..until], blocked, rows, year, places);
     let single = sort(&mut entries[start..until]);
     single.then_some(until + (used - end))

@@ -1,4 +1,4 @@
-use Rattle.std.proofs.Common.{◌≡◌, ℕ, ◌+◌, ◌-◌, ◌≤◌, Bool, true, false, ◌++◌, map, length, take, filter, sym, refl, ap, ◌∙◌, subst, arith, MatchBool, MatchOption}
+use Rattle.std.proofs.Common.{◌≡◌, ℕ, ◌+◌, ◌-◌, ◌≤◌, Bool, true, false, ◌++◌, map, length, filter, sym, refl, ◌∙◌, subst, arith, MatchBool, MatchOption}
 use Rattle.std.specs.Bool.{then_some}
 use borrow.Rule.Slice.PartMut.{put_mid}
 use Rattle.std.specs.List.Sorted.{IsPermutation, IsStrictlySortedBy}
@@ -12,7 +12,7 @@ use Rattle.registers.specs.Ids.{id_cmp}
 use Rattle.registers.specs.Own.{part}
 use Rattle.registers.proofs.Memory.{offset_fits}
 use Rattle.registers.proofs.Replacing.{all_is, front_is, length_put, part_is}
-use Rattle.registers.proofs.Shifts.{copied, copied_front, length_of_part}
+use Rattle.registers.proofs.Shifts.{length_of_part}
 use Rattle.registers.proofs.enter.replace_own.Goals as goal
 
 pub offset_bounds-entries-start : goal.offset_bounds-entries-start
@@ -31,11 +31,11 @@ merge-requires g c =
     let end = c.args.own.end in
     let b = c.keep_blocked-blocked.result in
     let own = c.keep_blocked-blocked.new.own in
-    let x2 = c.copy_within.new.self in
+    let x2 = c.shift.new.xs in
     let n = length c.args.places.now in
     let part-long = length_of_part x0 start end (omega arith) in
     let few = count_by-le-length (stays_blocked c.args.year) (part start end x0) in
-    let long : length x2 ≡ length x0 = c.copy_within.ensures.len ∙ length_put x0 own start (end - start) (c.keep_blocked-blocked.auto.own ∙ part-long) (omega arith) in
+    let long : length x2 ≡ length x0 = c.shift.auto.xs ∙ length_put x0 own start (end - start) (c.keep_blocked-blocked.auto.own ∙ part-long) (omega arith) in
     length_of_part x2 start (start + b + n) (omega (arith, long, c.requires.room, c.keep_blocked-blocked.ensures.count, few, part-long)) ∙ omega arith
 
 -- the count, where no number stands twice
@@ -46,7 +46,7 @@ answered false n Y Z h = h
 pub returns : goal.returns
 returns g c =
     let x0 = c.args.entries.now in
-    let x2 = c.copy_within.new.self in
+    let x2 = c.shift.new.xs in
     let start = c.args.own.start in
     let end = c.args.own.end in
     let used = c.args.used in
@@ -62,12 +62,10 @@ returns g c =
     let few : b ≤ end - start = omega (arith, count_by-le-length (stays_blocked c.args.year) (part start end x0), count, part-long) in
     let long-own : length own ≡ end - start = c.keep_blocked-blocked.auto.own ∙ part-long in
     let room : start + b + n + (used - end) ≤ length x0 = omega (arith, c.requires.room, count, c.requires.within.0, c.requires.within.1) in
-    let long : length x2 ≡ length x0 = c.copy_within.ensures.len ∙ length_put x0 own start (end - start) long-own (omega arith) in
-    let x1 = put_mid start (end - start) x0 own in
-    let long1 = length_put x0 own start (end - start) long-own (omega arith) in
+    let long : length x2 ≡ length x0 = c.shift.auto.xs ∙ length_put x0 own start (end - start) long-own (omega arith) in
     let until = start + b + n in
-    let low = ap (take until) c.copy_within.ensures.after ∙ copied_front x1 end used until c.requires.within.1 (omega (arith, long1)) (omega (arith, long1, room)) in
-    let moved = ap (part until (until + (used - end))) c.copy_within.ensures.after ∙ copied x1 end used until c.requires.within.1 (omega (arith, long1)) (omega (arith, long1, room)) in
+    let low = c.shift.ensures.front in
+    let moved = c.shift.ensures.moved in
     let long-part = length_of_part x2 start (start + b + n) (omega (arith, long, room)) in
     let long-merged : length merged ≡ start + b + n - start = c.merge.auto.own ∙ long-part in
     let x3 = put_mid start (start + b + n - start) x2 merged in
