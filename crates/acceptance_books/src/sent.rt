@@ -19,8 +19,8 @@ pub const TABLE: &str =
 
 // The last five digits of a number.
 fn digits(value: u32) -> [u8; 5] {
-    [value / 10000, value / 1000, value / 100, value / 10, value].map(|part| b'0'
-        + (part % 10) as u8)
+    let parts = [value / 10000, value / 1000, value / 100, value / 10, value];
+    parts.map(|part| b'0' + (part % 10) as u8)
 }
 
 // What the signs stand for.
@@ -60,7 +60,7 @@ impl Signs {
     }
 }
 
-// Numbers at equal steps.
+// Numbers at equal steps. They are counted, and not a range by `step_by`, over which a loop asks for a measure.
 #[derive(Clone, Copy)]
 pub struct Numbers {
     first: u32,

@@ -14,8 +14,8 @@ const TABLE: &str =
 
 // The last five digits of a number.
 fn digits(value: usize) -> [u8; 5] {
-    [value / 10000, value / 1000, value / 100, value / 10, value].map(|part| b'0'
-        + (part % 10) as u8)
+    let parts = [value / 10000, value / 1000, value / 100, value / 10, value];
+    parts.map(|part| b'0' + (part % 10) as u8)
 }
 
 // What a sign stands for in row k, by its last five digits. Numbers come in no order, and no two are the same.

@@ -39,11 +39,7 @@ fn check(rt: &HostRuntime, path: &str) -> io::Result<Status> {
     };
     let reading = Reading::of(bytes.as_slice());
     println!(rt; "{path}: {reading}")?;
-    Ok(if reading.is_read() {
-        Status::Done
-    } else {
-        Status::Failed
-    })
+    Ok(reading.status())
 }
 
 fn check_all(rt: &HostRuntime, paths: env::Args) -> io::Result<Status> {
