@@ -99,9 +99,7 @@ fn read_fields(bytes: &[u8]) -> Result<Head, HeadFault>
         return Err(HeadFault::Short);
     }
     check(layout(), &NO_CONTEXT, bytes)?;
-    let Some(first_day) = Date::read(part(bytes, 38, 45)) else {
-        return Err(HeadFault::BrokenField(10));
-    };
+    let first_day = Date::read(part(bytes, 38, 45)).ok_or(HeadFault::BrokenField(10))?;
     Ok(Head {
         stations: extent_in(bytes, 10..=14, 25..=27),
         series: extent_in(bytes, 15..=19, 28..=30),

@@ -60,6 +60,7 @@ fn scan<K: Kind>(
         let row = i + 1;
         read_row(&mut record, rows, i as usize, &before).map_err(|fault| FileFault { row, fault })?;
         before = Some(record.order());
+        // by index, since a proof knows nothing of elements that are written through an iterator
         places[i as usize] = Place {
             number: record.number(),
             row: i,
