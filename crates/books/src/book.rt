@@ -5,6 +5,7 @@ use kinds::series::Series;
 use kinds::station::Station;
 use registers::register::Register;
 
+// What a book needs and keeps stands in the types of its parts: no number twice in a run, and one line a supplier.
 #[derive(Drop)]
 pub struct Book<'a> {
     pub(crate) stations: Register<'a, Station>,

@@ -26,8 +26,8 @@ pub enum Found {
     Unknown,
 }
 
-// A kind of which the book has a register. Each kind writes `standing` itself, since the checker does not yet give a method
-// that is inherited with its body the clauses of its trait.
+// A kind of which the book has a register. Each kind writes `standing` itself: a method that lent its register in place of
+// it would be as long in each, since its clause has to be written out too.
 pub trait Booked: Kind {
     ghost run: { State → List (Entry Self.Number Self.Told) };
 
