@@ -60,7 +60,8 @@ impl<'a, K: Kind> Register<'a, K> {
     }
 
     // Whether a file may be entered, and whether its entries fit, or the first fault; as many rows as there are places,
-    // which are then those of the rows' numbers, sorted.
+    // which are then those of the rows' numbers, sorted. At most 4096 of them are looked at: a fault tells its row as a u32,
+    // so a bound is needed in any case.
     pub fn check(
         &self,
         rows: &Rows<'_>,
@@ -76,7 +77,8 @@ impl<'a, K: Kind> Register<'a, K> {
     }
 
     // Enters a file that may be entered, by the places of its rows' numbers; nothing, where its entries do not fit. Where
-    // a number would stand twice, which `check` refuses, only the lower suppliers' entries are used after.
+    // a number would stand twice, which `check` refuses, only the lower suppliers' entries are used after. The rows and the
+    // year stay two parameters: these calls take them apart, and a struct of both would be made only to be read again.
     pub fn enter(&mut self, rows: &Rows<'_>, year: u16, places: &[Place<K::Number>])
         ensures entered { Enterable K.Kind.meaning rows.now.supplier (row_in rows.now) K.Number.Ord.cmp self.old.entries.now self.old.used year places.now → Entered K.Kind.meaning rows.now.supplier (record_at K.Kind.meaning rows.now.supplier (row_in rows.now)) (take self.old.used self.old.entries.now) year (length places.now) (take self.new.used self.new.entries.now) }
         ensures left { length self.old.entries.now < length (entries_after K.Kind.meaning rows.now.supplier (record_at K.Kind.meaning rows.now.supplier (row_in rows.now)) (take self.old.used self.old.entries.now) year (length places.now)) → (self.new.used ≡ self.old.used) × (self.new.entries.now ≡ self.old.entries.now) }
