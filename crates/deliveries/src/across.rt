@@ -79,7 +79,8 @@ impl<'a> Stations<'a> {
         self.check_end(&told.destination, &DESTINATION, series.number)
     }
 
-    // The first of so many series that does not fit the stations.
+    // The first of so many series that does not fit the stations. Its `for` runs over row numbers: an iterator of the records
+    // would be a type of its own for this one caller.
     pub(crate) fn check_across(&self, series: &Rows<'_>, count: u32) -> Result<(), DeliveryFault>
         ensures { result_err result ≡ beside (first (λ k. series_fault (record_in station_meaning self.now.rows) (length self.now.places.now) (record_in series_meaning series.now k)) count) }
     {

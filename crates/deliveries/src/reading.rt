@@ -71,7 +71,8 @@ fn check_file<K: Kind>(
     read_file::<K>(rows, count, places).map_err(|fault| DeliveryFault::Row(K::LETTER, fault))
 }
 
-// The first fault of the rows, and then of the series beside the stations.
+// The first fault of the rows, and then of the series beside the stations. That the buffer bears the head is asked for here
+// and in `files_in` alone: a struct with that fact would be made in one place and read in these two.
 fn check_rows(bytes: &[u8], head: &Head) -> Result<(), DeliveryFault>
     requires { Whole bytes.now head.now }
     ensures { result_err result ≡ rows_fault bytes.now }
