@@ -74,7 +74,8 @@ impl<'a> Book<'a> {
         }
     }
 
-    // The first fault of a delivery. Where there is none, the places are those of its rows' numbers, sorted.
+    // The first fault of a delivery. Where there is none, the places are those of its rows' numbers, sorted. The places stay
+    // three parameters: their lengths are the delivery's counts, so a struct with these facts would hold the delivery too.
     fn judge(
         &self,
         delivery: &Delivery<'_>,
