@@ -127,6 +127,7 @@ impl<'a> Book<'a> {
         ensures { MatchResult result (λ n. (book_fault (state_of self.old) delivery.now.head delivery.now.bytes.now ≡ None) × (n ≡ (state_of self.new).receipts) × Admitted (state_of self.old) delivery.now.head delivery.now.bytes.now (state_of self.new)) (λ e. (book_fault (state_of self.old) delivery.now.head delivery.now.bytes.now ≡ Some e) × (self.new ≡ self.old)) }
     {
         let head = delivery.head();
+        // on the stack, since the library has no heap
         let empty = Place { number: 0, row: 0 };
         let mut stations = [empty; MOST_ROWS];
         let mut series = [empty; MOST_ROWS];

@@ -77,6 +77,7 @@ fn check_rows(bytes: &[u8], head: &Head) -> Result<(), DeliveryFault>
     requires { Whole bytes.now head.now }
     ensures { result_err result ≡ rows_fault bytes.now }
 {
+    // on the stack, since the library has no heap
     let empty = Place { number: 0, row: 0 };
     let mut stations = [empty; MOST_ROWS];
     let mut others = [empty; MOST_ROWS];

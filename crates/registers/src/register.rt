@@ -61,7 +61,7 @@ impl<'a, K: Kind> Register<'a, K> {
 
     // Whether a file may be entered, and whether its entries fit, or the first fault; as many rows as there are places,
     // which are then those of the rows' numbers, sorted. At most 4096 of them are looked at: a fault tells its row as a u32,
-    // so a bound is needed in any case.
+    // so a bound is needed in any case. That they do not fit is no `Err`: it is told only after all other files were looked at.
     pub fn check(
         &self,
         rows: &Rows<'_>,
