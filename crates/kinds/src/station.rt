@@ -37,6 +37,7 @@ pub struct StationFlags {
     pub zone: bool,
 }
 
+// A struct of this kind's own, with public fields: one `Record<T, F>` under three names would say less of what it holds.
 #[derive(Clone, Copy)]
 pub struct Station {
     pub supplier: u32,
@@ -118,13 +119,13 @@ impl Kind for Station {
 
     ghost ordered = { λ x y r e. e };
 
-    ghost supplied = { λ s row. refl };
+    ghost supplied = { λ s row e. refl };
 
     ghost referred = { λ s row. refl };
 
-    ghost unchanged = { station_same };
+    ghost unchanged = { λ t r d. station_same t r };
 
-    ghost alike = { same_station };
+    ghost alike = { λ t r d. same_station t r };
 
     fn layout() -> &'static [Field] {
         &LAYOUT
