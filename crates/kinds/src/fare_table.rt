@@ -6,7 +6,7 @@ ghost use Rattle.std.proofs.Common.{rules};
 
 use crate::cover::{Cover, Line};
 use crate::kind::Kind;
-use crate::values::{taken, texts_differ};
+use crate::values::taken;
 use fields::bytes::{number_in, part};
 use fields::flags::{KeyFlag, is_amended};
 use fields::rule::FieldType::{Alphanumeric, Numeric};
@@ -213,12 +213,12 @@ impl Kind for FareTable {
         let amended = &self.amended;
         [
             older.table_type != newer.table_type,
-            texts_differ(&older.official, &newer.official),
-            texts_differ(&older.french, &newer.french),
-            texts_differ(&older.german, &newer.german),
-            texts_differ(&older.english, &newer.english),
+            older.official != newer.official,
+            older.french != newer.french,
+            older.german != newer.german,
+            older.english != newer.english,
             amended.descriptions,
-            texts_differ(&older.currency, &newer.currency),
+            older.currency != newer.currency,
             amended.currency,
             older.return_is_double != newer.return_is_double,
             amended.return_is_double,

@@ -6,7 +6,7 @@ ghost use Rattle.std.proofs.Common.{rules};
 
 use crate::cover::{Cover, Line};
 use crate::kind::Kind;
-use crate::values::{taken, texts_differ};
+use crate::values::taken;
 use fields::bytes::{number_in, part};
 use fields::class::Class;
 use fields::flags::{KeyFlag, is_amended};
@@ -282,14 +282,11 @@ impl Kind for Series {
             amended.series_type,
             older.departure.station != newer.departure.station,
             older.departure.connection != newer.departure.connection,
-            texts_differ(&older.departure.designation, &newer.departure.designation),
+            older.departure.designation != newer.departure.designation,
             amended.departure,
             older.destination.station != newer.destination.station,
             older.destination.connection != newer.destination.connection,
-            texts_differ(
-                &older.destination.designation,
-                &newer.destination.designation,
-            ),
+            older.destination.designation != newer.destination.designation,
             amended.destination,
             older.route_number != newer.route_number,
             older.product != newer.product,

@@ -6,7 +6,7 @@ ghost use Rattle.std.proofs.Common.{rules};
 
 use crate::cover::{Cover, Line};
 use crate::kind::Kind;
-use crate::values::{taken, texts_differ};
+use crate::values::taken;
 use fields::bytes::{number_in, part};
 use fields::flags::{KeyFlag, is_amended};
 use fields::rule::FieldType::{Alphanumeric, Numeric};
@@ -168,11 +168,11 @@ impl Kind for Station {
     fn marks(&self, older: &StationTold) -> [bool; 8] {
         let newer = &self.told;
         [
-            texts_differ(&older.name, &newer.name),
+            older.name != newer.name,
             self.amended.name,
-            texts_differ(&older.designation, &newer.designation),
+            older.designation != newer.designation,
             self.amended.designation,
-            texts_differ(&older.route_description, &newer.route_description),
+            older.route_description != newer.route_description,
             self.amended.route_description,
             older.zone != newer.zone,
             self.amended.zone,
