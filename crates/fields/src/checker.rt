@@ -129,7 +129,7 @@ pub fn check(table: &[Field], context: &Context, row: &[u8]) -> Result<(), Field
     ensures first { result ≡ checked context.now row.now table.now }
     ensures sound { Decides (is_ok result) (Sound context.now row.now table.now) }
 {
-    // A `for` with `?` is as short as `try_for_each` with a closure, and shows that the first fault is given.
+    // a `for` with `?` is as short as `try_for_each` with a closure, and shows that the first fault is given.
     for field in table {
         field.check(context, row)?;
     }

@@ -16,6 +16,8 @@ pub enum KeyFlag {
 }
 
 impl KeyFlag {
+    // It reads the columns' bytes, and any other number than 1 and 2 counts as 0: a public `From<u8>` or `TryFrom<u8>` would
+    // offer that to all.
     #[tactic(auto, using(std::proofs::lemmas::Bool::Decides::nat_tests), unfolding(crate::specs::Flags::key_flag))]
     pub fn read(bytes: &[u8]) -> KeyFlag
         ensures { result ≡ key_flag bytes.now }

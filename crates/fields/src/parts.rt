@@ -22,6 +22,7 @@ pub enum Layer {
 pub struct Parts {
     pub number: u8,
     pub layer: Layer,
+    // the kind's own constant, here and in every fault that carries one, since a kind fixes its letter
     pub letter: char,
     pub row: u32,
     pub field: u8,

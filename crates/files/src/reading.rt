@@ -56,14 +56,13 @@ fn scan<K: Kind>(
 {
     let mut record = K::values(0, &[]);
     let mut before = None;
-    for i in 0..count {
-        let row = i + 1;
-        read_row(&mut record, rows, i as usize, &before).map_err(|fault| FileFault { row, fault })?;
+    for (i, place) in places[..count as usize].iter_mut().enumerate() {
+        let row = i as u32 + 1;
+        read_row(&mut record, rows, i, &before).map_err(|fault| FileFault { row, fault })?;
         before = Some(record.order());
-        // by index, since a proof knows nothing of elements that are written through an iterator
-        places[i as usize] = Place {
+        *place = Place {
             number: record.number(),
-            row: i,
+            row: i as u32,
         };
     }
     Ok(())

@@ -29,7 +29,7 @@ pub fn put<X: Copy>(xs: &mut [X], at: usize, x: X)
 fn is_repeat<N: Ord>(before: &Place<N>, after: &Place<N>) -> bool
     ensures { result ≡ is_repeat N.Ord.cmp before.now after.now }
 {
-    before.row < after.row && before.number.cmp(&after.number).is_eq()
+    before.row < after.row && before.number == after.number
 }
 
 // The least row whose place follows the one just before it. Among sorted places these are all the rows that repeat a number.
@@ -60,7 +60,7 @@ fn row_at<N: Ord>(places: &[Place<N>], i: usize, number: &N) -> Option<u32>
 {
     places
         .get(i)
-        .filter(|place| place.number.cmp(number).is_eq())
+        .filter(|place| place.number == *number)
         .map(|place| place.row)
 }
 

@@ -6,7 +6,7 @@ ghost use Rattle.std.proofs.Common.{rules};
 
 use crate::cover::{Cover, Line};
 use crate::kind::Kind;
-use crate::values::{taken, texts_differ};
+use crate::values::taken;
 use fields::bytes::{number_in, part};
 use fields::flags::{KeyFlag, is_amended};
 use fields::rule::FieldType::{Alphanumeric, Numeric};
@@ -48,6 +48,7 @@ pub struct FareTableFlags {
     pub return_is_double: bool,
 }
 
+// A struct of this kind's own, with public fields: one `Record<T, F>` under three names would say less of what it holds.
 #[derive(Clone, Copy)]
 pub struct FareTable {
     pub supplier: u32,
@@ -160,13 +161,13 @@ impl Kind for FareTable {
 
     ghost ordered = { Prim.search rules };
 
-    ghost supplied = { λ s row. refl };
+    ghost supplied = { λ s row e. refl };
 
     ghost referred = { λ s row. refl };
 
-    ghost unchanged = { fare_table_same };
+    ghost unchanged = { λ t r d. fare_table_same t r };
 
-    ghost alike = { same_fare_table };
+    ghost alike = { λ t r d. same_fare_table t r };
 
     fn layout() -> &'static [Field] {
         &LAYOUT
@@ -212,12 +213,12 @@ impl Kind for FareTable {
         let amended = &self.amended;
         [
             older.table_type != newer.table_type,
-            texts_differ(&older.official, &newer.official),
-            texts_differ(&older.french, &newer.french),
-            texts_differ(&older.german, &newer.german),
-            texts_differ(&older.english, &newer.english),
+            older.official != newer.official,
+            older.french != newer.french,
+            older.german != newer.german,
+            older.english != newer.english,
             amended.descriptions,
-            texts_differ(&older.currency, &newer.currency),
+            older.currency != newer.currency,
             amended.currency,
             older.return_is_double != newer.return_is_double,
             amended.return_is_double,
@@ -256,7 +257,7 @@ impl fmt::Display for FareTableTold {
             ..
         } = *self;
         let table_type = self.table_type.number();
-        let double = if self.return_is_double { 1 } else { 0 };
+        let double = u8::from(self.return_is_double);
         write!(
             f,
             "{table_type}|{official}|{french}|{german}|{english}|{currency}|{double}"

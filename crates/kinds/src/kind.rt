@@ -46,7 +46,8 @@ pub trait Kind: Copy {
     fn values(supplier: u32, row: &[u8]) -> Self
         ensures { result ≡ meaning.values supplier row.now };
 
-    // These read a field of a kind's own struct, which a body here could not.
+    // These read a field of a kind's own struct, which a body here could not. `record_number` is each kind's own too, since a
+    // number of several parts would be told in its own way.
     fn number(&self) -> Self::Number
         ensures { result ≡ meaning.number self.now };
 
@@ -76,15 +77,15 @@ pub trait Kind: Copy {
 
     ghost ordered: { (x y : Self.Key) (r : Ordering) → (r ≡ Self.Key.Ord.cmp x y) → r ≡ meaning.file_order.cmp x y };
 
-    // A record bears the supplier it is read under, and the rules of its row refer to its own number and key flag.
-    ghost supplied: { (s : ℕ) (row : List ℕ) → meaning.supplier (meaning.values s row) ≡ s };
+    // A record bears the supplier its row is read under, and the rules of a row refer to its own number and key flag.
+    ghost supplied: { (s : ℕ) (row : List ℕ) → (reads meaning s row ≡ Ok (meaning.values s row)) → meaning.supplier (meaning.values s row) ≡ s };
 
     ghost referred: { (s : ℕ) (row : List ℕ) → meaning.context s row ≡ record { supplier = s; number = meaning.record_number (meaning.number (meaning.values s row)); key_flag = meaning.key_flag (meaning.values s row) } };
 
-    // No mark of a told field is set exactly where all told fields are the older ones.
-    ghost unchanged: { (t : Self.Told) (r : Self) → Unchanged meaning.lines (meaning.marks t r) → t ≡ meaning.told r };
+    // Of a deletion, no mark of a told field is set exactly where all told fields are the older ones.
+    ghost unchanged: { (t : Self.Told) (r : Self) → (meaning.key_flag r ≡ Deletion) → Unchanged meaning.lines (meaning.marks t r) → t ≡ meaning.told r };
 
-    ghost alike: { (t : Self.Told) (r : Self) → t ≡ meaning.told r → Unchanged meaning.lines (meaning.marks t r) };
+    ghost alike: { (t : Self.Told) (r : Self) → (meaning.key_flag r ≡ Deletion) → t ≡ meaning.told r → Unchanged meaning.lines (meaning.marks t r) };
 
     // Reads a row under a head's supplier into this record, or gives the first field fault and leaves it as it was.
     final fn read(&mut self, supplier: u32, row: &[u8]) -> Result<(), FieldFault>

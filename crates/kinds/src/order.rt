@@ -8,5 +8,5 @@ use std::cmp::Ord;
 pub fn comes_later<O: Ord>(before: &O, after: &O) -> bool
     ensures { result ≡ is_gt (O.Ord.cmp before.now after.now) }
 {
-    before.cmp(after).is_gt()
+    before > after
 }

@@ -6,7 +6,7 @@ ghost use Rattle.std.proofs.Common.{rules};
 
 use crate::cover::{Cover, Line};
 use crate::kind::Kind;
-use crate::values::{taken, texts_differ};
+use crate::values::taken;
 use fields::bytes::{number_in, part};
 use fields::class::Class;
 use fields::flags::{KeyFlag, is_amended};
@@ -15,6 +15,7 @@ use fields::rule::Need::{Mandatory, Optional};
 use fields::rule::{Content, Field};
 use fields::text::Text;
 use std::fmt;
+use std::ops::RangeInclusive;
 
 // What a series leads between.
 #[derive(Clone, Copy, PartialEq, Eq)]
@@ -64,6 +65,7 @@ pub struct SeriesFlags {
     pub ferry: bool,
 }
 
+// A struct of this kind's own, with public fields: one `Record<T, F>` under three names would say less of what it holds.
 #[derive(Clone, Copy)]
 pub struct Series {
     pub supplier: u32,
@@ -153,14 +155,19 @@ impl SeriesType {
     }
 }
 
-fn end_in(row: &[u8], station: (u16, u16), connection: (u16, u16), designation: (u16, u16)) -> End
-    requires { (station.1 ≤ station.0 + 7) × (connection.1 ≤ connection.0 + 7) }
-    ensures { result ≡ end_columns station.0 station.1 connection.0 connection.1 designation.0 designation.1 row.now }
+fn end_in(
+    row: &[u8],
+    station: RangeInclusive<u16>,
+    connection: RangeInclusive<u16>,
+    designation: RangeInclusive<u16>,
+) -> End
+    requires { (station.end ≤ station.start + 7) × (connection.end ≤ connection.start + 7) }
+    ensures { result ≡ end_columns station.start station.end connection.start connection.end designation.start designation.end row.now }
 {
     End {
-        station: number_in(row, station.0, station.1),
-        connection: number_in(row, connection.0, connection.1),
-        designation: Text::read(part(row, designation.0, designation.1)),
+        station: number_in(row, *station.start(), *station.end()),
+        connection: number_in(row, *connection.start(), *connection.end()),
+        designation: Text::read(part(row, *designation.start(), *designation.end())),
     }
 }
 
@@ -169,8 +176,8 @@ fn told_in(row: &[u8]) -> SeriesTold
 {
     SeriesTold {
         series_type: SeriesType::of(number_in(row, 11, 11)),
-        departure: end_in(row, (13, 17), (18, 19), (20, 36)),
-        destination: end_in(row, (38, 42), (43, 44), (45, 61)),
+        departure: end_in(row, 13..=17, 18..=19, 20..=36),
+        destination: end_in(row, 38..=42, 43..=44, 45..=61),
         route_number: number_in(row, 63, 63),
         product: number_in(row, 64, 65),
         offer: number_in(row, 66, 67),
@@ -216,13 +223,13 @@ impl Kind for Series {
 
     ghost ordered = { λ x y r e. e };
 
-    ghost supplied = { λ s row. refl };
+    ghost supplied = { λ s row e. refl };
 
     ghost referred = { λ s row. refl };
 
-    ghost unchanged = { series_same };
+    ghost unchanged = { λ t r d. series_same t r };
 
-    ghost alike = { same_series };
+    ghost alike = { λ t r d. same_series t r };
 
     fn layout() -> &'static [Field] {
         &LAYOUT
@@ -275,14 +282,11 @@ impl Kind for Series {
             amended.series_type,
             older.departure.station != newer.departure.station,
             older.departure.connection != newer.departure.connection,
-            texts_differ(&older.departure.designation, &newer.departure.designation),
+            older.departure.designation != newer.departure.designation,
             amended.departure,
             older.destination.station != newer.destination.station,
             older.destination.connection != newer.destination.connection,
-            texts_differ(
-                &older.destination.designation,
-                &newer.destination.designation,
-            ),
+            older.destination.designation != newer.destination.designation,
             amended.destination,
             older.route_number != newer.route_number,
             older.product != newer.product,

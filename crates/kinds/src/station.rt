@@ -6,7 +6,7 @@ ghost use Rattle.std.proofs.Common.{rules};
 
 use crate::cover::{Cover, Line};
 use crate::kind::Kind;
-use crate::values::{taken, texts_differ};
+use crate::values::taken;
 use fields::bytes::{number_in, part};
 use fields::flags::{KeyFlag, is_amended};
 use fields::rule::FieldType::{Alphanumeric, Numeric};
@@ -37,6 +37,7 @@ pub struct StationFlags {
     pub zone: bool,
 }
 
+// A struct of this kind's own, with public fields: one `Record<T, F>` under three names would say less of what it holds.
 #[derive(Clone, Copy)]
 pub struct Station {
     pub supplier: u32,
@@ -118,13 +119,13 @@ impl Kind for Station {
 
     ghost ordered = { λ x y r e. e };
 
-    ghost supplied = { λ s row. refl };
+    ghost supplied = { λ s row e. refl };
 
     ghost referred = { λ s row. refl };
 
-    ghost unchanged = { station_same };
+    ghost unchanged = { λ t r d. station_same t r };
 
-    ghost alike = { same_station };
+    ghost alike = { λ t r d. same_station t r };
 
     fn layout() -> &'static [Field] {
         &LAYOUT
@@ -167,11 +168,11 @@ impl Kind for Station {
     fn marks(&self, older: &StationTold) -> [bool; 8] {
         let newer = &self.told;
         [
-            texts_differ(&older.name, &newer.name),
+            older.name != newer.name,
             self.amended.name,
-            texts_differ(&older.designation, &newer.designation),
+            older.designation != newer.designation,
             self.amended.designation,
-            texts_differ(&older.route_description, &newer.route_description),
+            older.route_description != newer.route_description,
             self.amended.route_description,
             older.zone != newer.zone,
             self.amended.zone,

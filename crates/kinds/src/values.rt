@@ -4,6 +4,7 @@ ghost use Rattle.std.specs.Prelude.{◌≡◌};
 
 use fields::text::Text;
 
+// Public, so it stays for those who call it; each `marks` says `!=` itself.
 pub fn texts_differ<const N: usize>(older: &Text<N>, newer: &Text<N>) -> bool
     ensures { result ≡ texts_differ older.now newer.now }
 {

@@ -10,4 +10,4 @@ invariant-loop-i g l =
     let row = row_in l.rows in
     (l.before ≡ key_before m s row l.i)
     × ((k : ℕ) → k < l.i → light_fault m s row k ≡ None)
-    × Noted m s row l.i l.places
+    × Noted m s row l.i l.place-items

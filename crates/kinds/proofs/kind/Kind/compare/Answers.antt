@@ -15,4 +15,4 @@ returns-clause-deleted g c =
     let t = c.args.older.now in
     let r = c.args.self.now in
     let value : c.first_fault.result ≡ compares g.Self.Kind.meaning t r = search rules in
-    deleted_compares g.Self.Kind.meaning t r _ value (g.met.Self.Kind.unchanged t r) (g.met.Self.Kind.alike t r)
+    λ d. deleted_compares g.Self.Kind.meaning t r _ value (g.met.Self.Kind.unchanged t r d) (g.met.Self.Kind.alike t r d) d
