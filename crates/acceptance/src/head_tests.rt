@@ -5,20 +5,13 @@ mod tests {
     use deliveries::fault::HeadFault::{BrokenField, Short, WrongSize};
     use deliveries::head::read_head;
     use std::test::Fail;
+    use trials::rows::overwrite;
 
     // Supplier 0081, 1 January 2026, version 01, no rows.
     const EMPTY: &[u8; 47] = b"30000000000000000000000009207320700812026010101";
 
     fn fault_of(bytes: &[u8]) -> Option<HeadFault> {
         read_head(bytes).err()
-    }
-
-    // Writes a text from a column on, as far as there are columns. The tests of kinds have these lines too: to share them,
-    // a library would have them as a public function with a contract of its own, which is no plainer.
-    fn overwrite(bytes: &mut [u8], column: usize, text: &[u8]) {
-        for (byte, written) in bytes.iter_mut().skip(column.saturating_sub(1)).zip(text) {
-            *byte = *written;
-        }
     }
 
     // The empty head's fault with some columns from `column` on written over.

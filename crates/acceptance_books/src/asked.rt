@@ -7,6 +7,7 @@ use kinds::fare_table::FareTable;
 use kinds::kind::Kind;
 use kinds::series::Series;
 use kinds::station::Station;
+use registers::entry::Id;
 use std::alloc::{AllocError, Global};
 use std::fmt::Display;
 
@@ -24,14 +25,14 @@ fn find_kind<K: Booked<Number = u32> + Drop>(
     heap: Global,
     book: &Book<'_>,
     row: &str,
-    id: (u32, u32),
+    id: Id<u32>,
 ) -> Result<String, AllocError>
 where
     K::Told: Display + Drop,
 {
     let mut record = K::values(0, LENT.fill(heap, row)?.as_slice()).told();
     let lent = format!(in heap; "{record}")?;
-    let found = book.find::<K>(id.0, id.1, &mut record);
+    let found = book.find::<K>(id.supplier, id.number, &mut record);
     let told = format!(in heap; "{record}")?;
     let told = if told.as_str() == lent.as_str() {
         "as lent"
@@ -50,7 +51,7 @@ pub fn find(
     heap: Global,
     book: &Book<'_>,
     letter: &[u8],
-    id: (u32, u32),
+    id: Id<u32>,
 ) -> Result<String, AllocError> {
     match letter {
         [b'G'] => find_kind::<Station>(heap, book, STATION, id),

@@ -12,6 +12,7 @@ use registers::entry::{Entry, Id, Standing};
 use std::alloc::{AllocError, Global};
 use std::process::Abort;
 use std::test::Fail;
+use trials::lines::comparable;
 
 // All that scripts with refusals bring into a book.
 const WATCHED: &str = "\
@@ -36,7 +37,8 @@ fn picture(heap: Global, book: &Book<'_>) -> Result<String, AllocError> {
         let supplier = number_in(question, 8, 11);
         let numbers = Numbers::read(part(question, 13, 27));
         for k in 0..numbers.count {
-            let answer = find(heap, book, part(question, 6, 6), (supplier, numbers.at(k)))?;
+            let number = numbers.at(k);
+            let answer = find(heap, book, part(question, 6, 6), Id { supplier, number })?;
             answers.push_str(answer.as_str())?;
         }
     }
@@ -102,7 +104,7 @@ fn try_find(
             destination: 0,
         };
         let expected = signs.fill(heap, expected)?;
-        let answer = find(heap, book, part(question, 6, 6), (supplier, number))?;
+        let answer = find(heap, book, part(question, 6, 6), Id { supplier, number })?;
         assert!(rt;
             answer.as_bytes() == expected.as_slice(),
             "{asked}: {}",
@@ -122,14 +124,6 @@ fn answer(heap: Global, book: &mut Book<'_>, asked: &str) -> Result<String, Fail
             };
             Ok(admit(heap, book, bytes.as_slice())?)
         }
-    }
-}
-
-// What is answered, without the sentence in brackets where none is expected.
-fn comparable<'a>(answer: &'a str, expected: &str) -> &'a str {
-    match answer.split_once(" (") {
-        Some((line, _)) if !expected.ends_with(')') => line,
-        _ => answer,
     }
 }
 

@@ -5,6 +5,7 @@
 // A row `G 00003-00100/7 1` stands for one row with each seventh number from 3 to 100.
 use fields::bytes::number_in;
 use std::alloc::{AllocError, Global};
+use trials::rows::add_row;
 
 // Rows have digits in place of these signs: ~ the supplier, # the number, ^ the number of a fare table, ! the key flag,
 // @ and & the stations of a series.
@@ -16,12 +17,6 @@ pub const SERIES: &str =
 
 pub const TABLE: &str =
     "~~~~^^^^!1Tarif ^^^^                    Prix ^^^^                     Preis ^^^^                    Fare ^^^^                                                   0EUR0  10        ^^^^~~~~1001                  ";
-
-// The last five digits of a number.
-fn digits(value: u32) -> [u8; 5] {
-    let parts = [value / 10000, value / 1000, value / 100, value / 10, value];
-    parts.map(|part| b'0' + (part % 10) as u8)
-}
 
 // What the signs stand for.
 #[derive(Clone, Copy)]
@@ -50,12 +45,7 @@ impl Signs {
     // A text with digits in place of its signs.
     pub fn fill(&self, heap: Global, text: &str) -> Result<Vec<u8>, AllocError> {
         let mut bytes = Vec::new(heap);
-        for run in text.as_bytes().chunk_by(|one, next| one == next) {
-            match run.first().and_then(|sign| self.value(*sign)) {
-                Some(value) => bytes.extend(digits(value).iter().take(run.len()))?,
-                None => bytes.extend_from_slice(run)?,
-            }
-        }
+        add_row(&mut bytes, text, |sign| self.value(sign))?;
         Ok(bytes)
     }
 }

@@ -9,6 +9,7 @@ use fields::bytes::number_in;
 use std::alloc::Global;
 use std::process::Abort;
 use std::test::Fail;
+use trials::lines::comparable;
 
 // Makes one edit, a byte for each character, as in ISO-8859-1; none where there is no such place.
 fn edit(bytes: &mut Vec<u8>, head: &str, edit: &str) -> Option<()> {
@@ -18,8 +19,9 @@ fn edit(bytes: &mut Vec<u8>, head: &str, edit: &str) -> Option<()> {
         .wrapping_add(column)
         .wrapping_sub(1);
     let text = edit.chars().skip(11).filter(|character| *character != '\'');
-    for (i, character) in text.enumerate() {
-        *bytes.get_mut(start.wrapping_add(i))? = u8::try_from(u32::from(character)).unwrap_or(0);
+    let mut places = bytes.as_mut_slice().get_mut(start..)?.iter_mut();
+    for character in text {
+        *places.next()? = u8::try_from(u32::from(character)).unwrap_or(0);
     }
     Some(())
 }
@@ -48,14 +50,6 @@ fn told(heap: Global, head: &str, edits: &str) -> Option<String> {
     match fault_of(bytes.as_slice()) {
         None => format!(in heap; "read").ok(),
         Some(fault) => format!(in heap; "{fault}").ok(),
-    }
-}
-
-// What is told, without the sentence in brackets where none is expected.
-fn comparable<'a>(told: &'a str, expected: &str) -> &'a str {
-    match told.split_once(" (") {
-        Some((line, _)) if !expected.ends_with(')') => line,
-        _ => told,
     }
 }
 

@@ -1,6 +1,7 @@
 // Sound deliveries of supplier 0081, of any size: as many rows, and as long, as a head says.
 use fields::bytes::number_in;
 use std::alloc::{AllocError, Global};
+use trials::rows::add_row;
 
 // A row has digits in place of these signs: # and $ the numbers of a station and of a series, % the row counted from 0,
 // @ and & the number and the row of the next station, and ^ the number of a fare table.
@@ -12,14 +13,8 @@ const SERIES: &str = "0081$$$$$030#####01Place %%%%%      0@@@@@02Place &&&&&   
 const TABLE: &str =
     "0081^^^^01Tarif ^^^^                    Prix ^^^^                     Preis ^^^^                    Fare ^^^^                                                   0EUR0  10        ^^^^00811001                  ";
 
-// The last five digits of a number.
-fn digits(value: usize) -> [u8; 5] {
-    let parts = [value / 10000, value / 1000, value / 100, value / 10, value];
-    parts.map(|part| b'0' + (part % 10) as u8)
-}
-
 // What a sign stands for in row k, by its last five digits. Numbers come in no order, and no two are the same.
-fn value(sign: u8, k: usize, stations: usize) -> Option<usize> {
+fn value(sign: u8, k: u32, stations: u32) -> Option<u32> {
     let next = k.wrapping_add(1) % stations.max(1);
     match sign {
         b'#' => Some(k.wrapping_mul(92081).wrapping_add(7115)),
@@ -31,17 +26,6 @@ fn value(sign: u8, k: usize, stations: usize) -> Option<usize> {
         b'^' => Some(k.wrapping_add(1000).wrapping_mul(10)),
         _ => None,
     }
-}
-
-// Adds row k of a file: each run of one sign stands for as many digits, and all else for itself.
-fn add_row(bytes: &mut Vec<u8>, row: &str, k: usize, stations: usize) -> Result<(), AllocError> {
-    for run in row.as_bytes().chunk_by(|one, next| one == next) {
-        match run.first().and_then(|sign| value(*sign, k, stations)) {
-            Some(value) => bytes.extend(digits(value).iter().take(run.len()))?,
-            None => bytes.extend_from_slice(run)?,
-        }
-    }
-    Ok(())
 }
 
 // The head and its rows, with bytes of every value where a row is longer than its last field.
@@ -58,8 +42,8 @@ pub fn delivery(heap: Global, head: &str) -> Result<Vec<u8>, AllocError> {
         (TABLE, number_in(head.as_bytes(), 20, 24), 207),
     ];
     for (row, count, length) in files {
-        for k in 0..count as usize {
-            add_row(&mut bytes, row, k, stations as usize)?;
+        for k in 0..count {
+            add_row(&mut bytes, row, |sign| value(sign, k, stations))?;
             bytes.extend((row.len()..length as usize).map(|column| (column % 256) as u8))?;
         }
     }

@@ -1,9 +1,10 @@
 // Fare tables: every field damaged in turn, compared and taken over.
-use crate::rows::{Comparison, Damage, overwrite, record_of, try_compared, try_damaged};
+use crate::rows::{Comparison, Damage, record_of, try_compared, try_damaged};
 use fields::fault::FieldFault::{NotAllowed, NotEqual, NotOfType};
 use kinds::fare_table::FareTable;
 use kinds::kind::Kind;
 use std::test::Fail;
+use trials::rows::overwrite;
 
 const ROW: &[u8; 207] =
     b"0081100001Normalpreis                   Plein tarif                   Normalpreis                   Full fare                                                   0EUR0  10        100000811001                  ";

@@ -2,13 +2,7 @@
 use fields::fault::FieldFault;
 use kinds::kind::Kind;
 use std::process::Abort;
-
-// Writes a text from a column on, as far as there are columns.
-pub fn overwrite(row: &mut [u8], column: usize, text: &[u8]) {
-    for (byte, written) in row.iter_mut().skip(column.saturating_sub(1)).zip(text) {
-        *byte = *written;
-    }
-}
+use trials::rows::overwrite;
 
 // The fault of a row of supplier 0081.
 pub fn fault_of<K: Kind + Drop>(row: &[u8]) -> Option<FieldFault> {

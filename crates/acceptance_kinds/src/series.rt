@@ -1,10 +1,11 @@
 // Series: every field damaged in turn, compared and taken over.
-use crate::rows::{Comparison, Damage, overwrite, record_of, try_compared, try_damaged};
+use crate::rows::{Comparison, Damage, record_of, try_compared, try_damaged};
 use fields::fault::FieldFault::{NotAllowed, NotEqual, NotOfType};
 use kinds::kind::Kind;
 use kinds::order::comes_later;
 use kinds::series::Series;
 use std::test::Fail;
+use trials::rows::overwrite;
 
 const ROW: &[u8; 73] = b"0081013010300711501Wien Hbf         00720002Salzburg Hbf     011122+0B0S0";
 

@@ -1,9 +1,10 @@
 // Stations: every field damaged in turn, compared and taken over.
-use crate::rows::{Comparison, Damage, fault_of, overwrite, record_of, try_compared, try_damaged};
+use crate::rows::{Comparison, Damage, fault_of, record_of, try_compared, try_damaged};
 use fields::fault::FieldFault::{NotAllowed, NotEqual, NotOfType};
 use kinds::kind::Kind;
 use kinds::station::Station;
 use std::test::Fail;
+use trials::rows::overwrite;
 
 const ROW: &[u8; 92] =
     b"008107115012345Wien Hauptbahnhof                  0Wien Hbf         0Wien             000420";

@@ -16,7 +16,6 @@ use files::rows::Rows;
 use indexes::{Place, row_of};
 use kinds::series::{End, Series};
 use kinds::station::Station;
-use kinds::values::texts_differ;
 
 // The numbers of the fields that hold the code and the designation of a series' end.
 struct EndFields {
@@ -61,7 +60,7 @@ impl<'a> Stations<'a> {
         let station = self
             .with(end.station)
             .ok_or(AcrossFault::NoStation(fields.code, series))?;
-        if texts_differ(&end.designation, &station.told.designation) {
+        if end.designation != station.told.designation {
             return Err(AcrossFault::OtherDesignation(fields.designation, series));
         }
         Ok(())

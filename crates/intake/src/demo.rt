@@ -99,13 +99,14 @@ fn files(rt: &HostRuntime) -> io::Result<()> {
     Ok(())
 }
 
-// Reads a row of supplier 0081 into a station, or tells why not.
-fn tell_row(rt: &HostRuntime, station: &mut Station, row: &str) -> io::Result<bool> {
+// The station in a row of supplier 0081; where the row is refused, tells why, and answers none.
+fn tell_row(rt: &HostRuntime, row: &str) -> io::Result<Option<Station>> {
+    let mut station = Station::values(0, &[]);
     match station.read(81, row.as_bytes()) {
-        Ok(()) => Ok(true),
+        Ok(()) => Ok(Some(station)),
         Err(fault) => {
             println!(rt; "  refused {fault}")?;
-            Ok(false)
+            Ok(None)
         }
     }
 }
@@ -121,10 +122,9 @@ fn rows(rt: &HostRuntime) -> io::Result<()> {
     println!(rt;
         "The rows follow. This one brings a new station, and a buyer who loads it holds all its fields:"
     )?;
-    let mut station = Station::values(0, &[]);
-    if !tell_row(rt, &mut station, FIRST)? {
+    let Some(station) = tell_row(rt, FIRST)? else {
         return Ok(());
-    }
+    };
     let mut held = station.told();
     println!(rt; "  {held}")?;
     let amended = [
@@ -139,14 +139,14 @@ fn rows(rt: &HostRuntime) -> io::Result<()> {
     ];
     for (text, row) in amended {
         println!(rt; "{text}")?;
-        if tell_row(rt, &mut station, row)? {
+        if let Some(station) = tell_row(rt, row)? {
             tell_flags(rt, station.compare(&held))?;
             held = station.take_over(&held);
             println!(rt; "  {held}")?;
         }
     }
     println!(rt; "A row whose name begins with a blank is not read at all:")?;
-    let _ = tell_row(rt, &mut station, DAMAGED)?;
+    let _ = tell_row(rt, DAMAGED)?;
     Ok(())
 }
 
