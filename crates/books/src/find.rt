@@ -16,6 +16,8 @@ use kinds::series::{Series, SeriesTold};
 use kinds::station::{Station, StationTold};
 use registers::entry::{Id, Standing};
 
+// The told fields do not stand in `Live`: by the rules they go into the record that the caller lends, so the answer is small and
+// copies none.
 #[derive(Clone, Copy, PartialEq, Eq, Debug)]
 pub enum Found {
     // the number is live

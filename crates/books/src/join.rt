@@ -12,7 +12,7 @@ fn is_between(told: &SeriesTold, one: u32, other: u32) -> bool
     ensures { result ≡ joins one other told.now }
 {
     let ends = (told.departure.station, told.destination.station);
-    (ends.0 == one && ends.1 == other) || (ends.0 == other && ends.1 == one)
+    ends == (one, other) || ends == (other, one)
 }
 
 // The route number and the number of an entry that is a live series between the stations.

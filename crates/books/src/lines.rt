@@ -21,8 +21,8 @@ pub struct Line {
     pub version: u32,
 }
 
-// The first lines are used, one for each supplier. They stand in an array with a count, since `ArrayVec` asks for a default
-// line, and no day is a date's default.
+// The first lines are used, one for each supplier. They stand in an array with a count, which the book's state reads; a vector
+// of fixed capacity would want a default line, that is a day that no carrier sent.
 #[derive(Clone, Copy)]
 pub struct Lines {
     lines: [Line; 16],

@@ -1,9 +1,11 @@
 -- In entries that ascend by their ids, a binary search finds what stands under an id.
-use Rattle.std.proofs.Common.{◌≡◌, ℕ, zero, suc, ◌+◌, ◌<◌, Bool, true, false, cond, List, [], ◌∷◌, length, get_or, Some, None, Ordering, Less, Equal, Greater, sym, refl, ap, ◌∙◌, ⊎_elim, arith, MatchBool}
+use Rattle.std.proofs.Common.{◌≡◌, ℕ, zero, suc, ◌+◌, ◌<◌, Bool, true, false, cond, List, [], ◌∷◌, length, get_or, Some, None, Ok, Err, Result, Ordering, Less, Equal, Greater, sym, refl, ap, ◌∙◌, subst, ⊎_elim, arith, MatchBool}
 use Rattle.std.specs.Cmp.{IsTotalOrder, alike_right}
 use Rattle.std.specs.Ordering.{is_eq, is_lt, ordering_reverse}
 use Rattle.std.specs.List.{AllByRecursion, IsAllAdjacentAnswer}
-use Rattle.std.specs.List.Sorted.{IsPartitionPoint, IsSortedWithin, IsStrictlySortedBy}
+use Rattle.std.specs.List.Sorted.{IsBinarySearchResult, IsPartitionPoint, IsSearchInRange, IsSortedWithin, IsStrictlySortedBy}
+use Rattle.std.specs.Result.{result_ok}
+use Rattle.std.proofs.lemmas.List.Sorted.{searchable_from_sorted}
 use Rattle.std.proofs.lemmas.Map.Keys.{Less-from_sorted, sorted_from_all_adjacent}
 use Rattle.std.proofs.lemmas.List.{get_or-map, length-map}
 use Rattle.std.proofs.lemmas.Bool.{cases_lt, false≢true, true≢false}
@@ -60,6 +62,19 @@ module _ {N T : Type 0} {P : Id N → Id N → Ordering} (o : IsTotalOrder P) wh
   standing_missed es up i at parted =
       standing_none es i
       (λ k d l. ⊎_elim (λ z. ap is_eq (parted.0 k d (omega arith) z)) (λ z. ap is_eq (parted.1 k d z l)) (cases_lt k at))
+
+  -- what stands at the place that a search found
+  pub standing_found : (es : List (Entry N T)) → IsStrictlySortedBy P (ids es) → (i : Id N) (r : Result ℕ ℕ) → IsSearchInRange r (length es) → IsBinarySearchResult (λ e. P e.id i) es r →
+      (k : ℕ) → Some k ≡ result_ok r → (d : Entry N T) → Some (get_or es k d).standing ≡ standing P es i
+  standing_found es up i (Ok j) l h k e d =
+      let same : j ≡ k = cc in
+      sym (subst (λ n. standing P es i ≡ Some (get_or es n d).standing) same (standing_at es up j i d l (h d)))
+  standing_found es up i (Err j) l h k e d = cc
+
+  -- nothing stands where it found none
+  pub standing_lost : (es : List (Entry N T)) → IsStrictlySortedBy P (ids es) → (i : Id N) (r : Result ℕ ℕ) → IsBinarySearchResult (λ e. P e.id i) es r → None ≡ result_ok r → None ≡ standing P es i
+  standing_lost es up i (Ok j) h e = cc
+  standing_lost es up i (Err j) h e = sym (standing_missed es up i j (h (searchable_from_sorted o (λ e. e.id) es i (ascends es up))))
 
   -- each id is below the next, or one is not
   pub rising : (es : List (Entry N T)) (r : Bool) → IsAllAdjacentAnswer (λ x y b. b ≡ is_lt (P x.id y.id)) es r →

@@ -100,8 +100,7 @@ impl<K: Kind> Register<'_, K> {
     }
 
     // The rows beside what stands under their numbers, as many as there is room for places. Where none is refused, the
-    // places are those of the rows' numbers, in file order. The places are written by index, since a proof does not know
-    // what is written through an iterator.
+    // places are those of the rows' numbers, in file order.
     fn check_rows(
         &self,
         rows: &Rows<'_>,
@@ -112,12 +111,12 @@ impl<K: Kind> Register<'_, K> {
         ensures first { result_err result ≡ rows_refusal K.Kind.meaning rows.now.supplier (record_at K.Kind.meaning rows.now.supplier (row_in rows.now)) (take self.now.used self.now.entries.now) year (length places.old) }
         ensures noted { is_ok result ≡ true → Noted K.Kind.meaning rows.now.supplier (row_in rows.now) (length places.old) places.new }
     {
-        for i in 0..places.len() {
+        for (i, place) in places.iter_mut().enumerate() {
             let row = i as u32;
-            match self.check_row(rows, i, year) {
-                Ok(number) => places[i] = Place { number, row },
-                Err(fault) => return Err(RegisterFault::Row(row + 1, fault)),
-            }
+            let number = self
+                .check_row(rows, i, year)
+                .map_err(|fault| RegisterFault::Row(row + 1, fault))?;
+            *place = Place { number, row };
         }
         Ok(())
     }

@@ -18,8 +18,8 @@ use kinds::kind::Kind;
 use std::cmp::Ord;
 use std::ops::Range;
 
-// Moves the entries that are still blocked to the front, and answers how many they are; by index, since a proof does not know
-// what is written through an iterator.
+// Moves the entries that are still blocked to the front, and answers how many they are. It reads at one place and writes at
+// another of one slice, which no iterator lends at once; and no method filters a slice in its place without a heap.
 fn keep_blocked<N: Copy, T: Copy>(own: &mut [Entry<N, T>], year: u16) -> usize
     ensures count { result ≡ count_by (stays_blocked year) own.old }
     ensures front { take result own.new ≡ filter (stays_blocked year) own.old }
@@ -81,7 +81,7 @@ fn entry_at<K: Kind>(
 fn is_above<N: Ord, T>(entry: &Entry<N, T>, place: &Place<N>) -> bool
     ensures { result ≡ is_gt (N.Ord.cmp entry.now.id.number place.now.number) }
 {
-    entry.id.number.cmp(&place.number).is_gt()
+    entry.id.number > place.number
 }
 
 // Puts the entries of the rows among those that are still blocked, which stand in front, from the back on: the higher
@@ -113,7 +113,8 @@ fn merge<K: Kind>(
     }
 }
 
-// Sorts entries, and answers whether no number stands twice among them.
+// Sorts entries, and answers whether no number stands twice among them. It asks `cmp`, of which the clause speaks: with `x < y`
+// it stays open that the derived `partial_cmp` of two entries says what their `cmp` says.
 fn sort<N: Ord, T>(entries: &mut [Entry<N, T>]) -> bool
     ensures same { IsPermutation entries.old entries.new }
     ensures sorted { IsSortedWithin (λ x y. is_lt (id_cmp N.Ord.cmp x.id y.id)) entries.new 0 (length entries.new) }

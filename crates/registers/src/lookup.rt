@@ -14,12 +14,6 @@ pub(crate) fn standing_of<N: Ord + Copy, T: Copy>(
 ) -> Option<Standing<T>>
     ensures { (o : IsTotalOrder N.Ord.cmp) → IsStrictlySortedBy (id_cmp N.Ord.cmp) (ids entries.now) → result ≡ standing (id_cmp N.Ord.cmp) entries.now id }
 {
-    let sought = Entry {
-        id,
-        standing: Standing::Retired(0),
-    };
-    match entries.binary_search(&sought) {
-        Ok(i) => Some(entries[i].standing),
-        Err(_) => None,
-    }
+    let i = entries.binary_search_by_key(&id, |entry| entry.id).ok()?;
+    Some(entries[i].standing)
 }

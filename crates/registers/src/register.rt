@@ -20,7 +20,7 @@ use kinds::kind::Kind;
 use std::ops::Range;
 
 // The first entries of the run are used; they ascend by supplier and number, so that no number stands twice. The rest is
-// open.
+// open. The count stands beside the run, since the caller lends the memory, and the library has no heap.
 #[derive(Drop)]
 pub struct Register<'a, K: Kind> {
     entries: &'a mut [Entry<K::Number, K::Told>],

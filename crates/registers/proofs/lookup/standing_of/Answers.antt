@@ -1,15 +1,18 @@
-use Rattle.std.proofs.Common.{sym}
-use Rattle.std.proofs.lemmas.List.Sorted.{searchable_from_sorted}
+use Rattle.std.proofs.Common.{rules, sym, ◌∙◌}
+use Rattle.std.proofs.lemmas.List.Sorted.{answers_always}
 use Rattle.registers.specs.Ids.{by_id}
-use Rattle.registers.proofs.Lookups.{ascends, standing_at, standing_missed}
+use Rattle.registers.proofs.Lookups.{standing_found, standing_lost}
 use Rattle.registers.proofs.lookup.standing_of.Goals as goal
 
-pub returns-in-Ok : goal.returns-in-Ok
-returns-in-Ok g c o up =
-    sym (standing_at (by_id o) c.args.entries.now up c.in-Ok.i c.args.id c.index-entries-i.result
-    c.in-Ok.ensures.bound (c.in-Ok.ensures.position c.index-entries-i.result))
+pub returns-in_err-i : goal.returns-in_err-i
+returns-in_err-i g c o up =
+    c.from_residual.ensures
+    ∙ standing_lost (by_id o) c.args.entries.now up c.args.id c.binary_search_by_key.result
+    (c.binary_search_by_key.ensures.position (λ e. e.id) (answers_always _ _ _ (λ f a r q called. search rules)))
+    (sym c.in_err-i.was ∙ c.ok.ensures.value)
 
-pub returns-in-Err : goal.returns-in-Err
-returns-in-Err g c o up =
-    sym (standing_missed (by_id o) c.args.entries.now up c.args.id _
-    (c.in-Err.ensures.position (searchable_from_sorted (by_id o) (λ e. e.id) c.args.entries.now c.args.id (ascends (by_id o) c.args.entries.now up))))
+pub returns : goal.returns
+returns g c o up =
+    standing_found (by_id o) c.args.entries.now up c.args.id c.binary_search_by_key.result c.binary_search_by_key.ensures.bound
+    (c.binary_search_by_key.ensures.position (λ e. e.id) (answers_always _ _ _ (λ f a r q called. search rules)))
+    c.in_ok-i.i (sym c.in_ok-i.was ∙ c.ok.ensures.value) c.index-entries-i.result
