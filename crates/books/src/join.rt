@@ -38,7 +38,8 @@ fn join_among(own: &[Entry<u32, SeriesTold>], one: u32, other: u32) -> Option<(u
 
 impl Book<'_> {
     // The live series of a supplier between two stations, either way round, with the least route number, and among these
-    // with the lowest number; none exactly when no live series joins them.
+    // with the lowest number; none exactly when no live series joins them. The stations stay two parameters: a pair of them
+    // would have an order.
     pub fn join(&self, supplier: u32, one: u32, other: u32) -> Option<u32>
         ensures value { result ≡ joined (state_of self.now).series supplier one other }
         ensures nearest { Nearest (state_of self.now).series supplier one other result }

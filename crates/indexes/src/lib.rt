@@ -44,7 +44,8 @@ fn least_repeat<N: Ord>(places: &[Place<N>]) -> Option<u32>
         .min()
 }
 
-// Sorts the places, and answers the first row whose number an earlier row has.
+// Sorts the places, and answers the first row whose number an earlier row has. Clauses hold of any proof `o` that the order of
+// the numbers is total, so that a caller may name its own.
 pub fn first_repeat<N: Ord + Copy>(places: &mut [Place<N>]) -> Option<u32>
     ensures same { IsPermutation places.old places.new }
     ensures sorted { (o : IsTotalOrder N.Ord.cmp) → SortedPlaces o places.new }

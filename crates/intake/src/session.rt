@@ -60,6 +60,7 @@ fn read(rt: &HostRuntime, bytes: &[u8]) -> io::Result<()> {
     println!(rt; "{}", Reading::of(bytes))
 }
 
+// The runtime and the book stay two parameters of this call and those below: no value holds both for longer than a line.
 pub fn admit(rt: &HostRuntime, book: &mut Book<'_>, bytes: &[u8]) -> io::Result<()> {
     let mut delivery = Delivery::empty();
     if let Err(fault) = delivery.read(bytes) {
