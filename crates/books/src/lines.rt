@@ -22,7 +22,7 @@ pub struct Line {
 }
 
 // The first lines are used, one for each supplier. They stand in an array with a count, which the book's state reads; a vector
-// of fixed capacity would want a default line, that is a day that no carrier sent.
+// of fixed capacity would want the public `Line` and `Date` to have a `Default`.
 #[derive(Clone, Copy)]
 pub struct Lines {
     lines: [Line; 16],

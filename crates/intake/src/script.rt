@@ -1,4 +1,5 @@
 // The commands of a script, one a line.
+use registers::entry::Id;
 use std::str::{FromStr, SplitWhitespace};
 
 // How many entries each run of the book has room for.
@@ -47,8 +48,8 @@ pub enum Command<'a> {
     Open(Rooms),
     Read(&'a str),
     Admit(&'a str),
-    // a kind, a supplier and a number
-    Find(Letter, u32, u32),
+    // a kind, and a number of a supplier
+    Find(Letter, Id<u32>),
     // a supplier and two station codes
     Join(u32, u32, u32),
 }
@@ -87,7 +88,7 @@ fn find<'a>(mut words: SplitWhitespace<'_>) -> Option<Command<'a>> {
     let supplier = supplier(words.next())?;
     let number = number(words.next(), 5)?;
     end(words)?;
-    Some(Command::Find(letter, supplier, number))
+    Some(Command::Find(letter, Id { supplier, number }))
 }
 
 fn join<'a>(mut words: SplitWhitespace<'_>) -> Option<Command<'a>> {

@@ -60,7 +60,8 @@ fn read(rt: &HostRuntime, bytes: &[u8]) -> io::Result<()> {
     println!(rt; "{}", Reading::of(bytes))
 }
 
-// The runtime and the book stay two parameters of this call and those below: no value holds both for longer than a line.
+// The runtime and the book stay two parameters of this call and those below: a struct of both would be made in `use_book`
+// alone, and be no shorter to pass.
 pub fn admit(rt: &HostRuntime, book: &mut Book<'_>, bytes: &[u8]) -> io::Result<()> {
     let mut delivery = Delivery::empty();
     if let Err(fault) = delivery.read(bytes) {
@@ -76,31 +77,24 @@ pub fn admit(rt: &HostRuntime, book: &mut Book<'_>, bytes: &[u8]) -> io::Result<
 fn find_kind<K: Booked<Number = u32> + Drop>(
     rt: &HostRuntime,
     book: &Book<'_>,
-    supplier: u32,
-    number: u32,
+    id: Id<u32>,
 ) -> io::Result<()>
 where
     K::Told: Display + Drop,
 {
     let mut told = K::values(0, &[]).told();
-    match book.find::<K>(supplier, number, &mut told) {
+    match book.find::<K>(id.supplier, id.number, &mut told) {
         Found::Live => println!(rt; "live {told}"),
         Found::Retired((year, free)) => println!(rt; "retired {year} free {free}"),
         Found::Unknown => println!(rt; "unknown"),
     }
 }
 
-pub fn find(
-    rt: &HostRuntime,
-    book: &Book<'_>,
-    letter: Letter,
-    supplier: u32,
-    number: u32,
-) -> io::Result<()> {
+pub fn find(rt: &HostRuntime, book: &Book<'_>, letter: Letter, id: Id<u32>) -> io::Result<()> {
     match letter {
-        Letter::Station => find_kind::<Station>(rt, book, supplier, number),
-        Letter::Series => find_kind::<Series>(rt, book, supplier, number),
-        Letter::FareTable => find_kind::<FareTable>(rt, book, supplier, number),
+        Letter::Station => find_kind::<Station>(rt, book, id),
+        Letter::Series => find_kind::<Series>(rt, book, id),
+        Letter::FareTable => find_kind::<FareTable>(rt, book, id),
     }
 }
 
@@ -166,8 +160,8 @@ fn carry_out(rt: &HostRuntime, book: &mut Book<'_>, line: &Line<'_>) -> io::Resu
             path,
             |bytes| admit(rt, book, bytes),
         ),
-        Ok(Command::Find(letter, supplier, number)) => {
-            find(rt, book, letter, supplier, number)?;
+        Ok(Command::Find(letter, id)) => {
+            find(rt, book, letter, id)?;
             Ok(Status::Done)
         }
         Ok(Command::Join(supplier, one, other)) => {

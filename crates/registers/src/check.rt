@@ -100,7 +100,8 @@ impl<K: Kind> Register<'_, K> {
     }
 
     // The rows beside what stands under their numbers, as many as there is room for places. Where none is refused, the
-    // places are those of the rows' numbers, in file order.
+    // places are those of the rows' numbers, in file order. The bound stays in these two clauses: a type for it would be no
+    // plainer, since it would be made in `check` alone.
     fn check_rows(
         &self,
         rows: &Rows<'_>,

@@ -87,7 +87,8 @@ fn is_above<N: Ord, T>(entry: &Entry<N, T>, place: &Place<N>) -> bool
 // Puts the entries of the rows among those that are still blocked, which stand in front, from the back on: the higher
 // number of the last ones first. Both ascend, so what comes out ascends too, and is cheap to sort. Where the rows are written
 // behind the blocked ones and the sort alone orders them, an admission to a book of 262144 entries a run takes 1166 ns a row
-// beside 465, and filling that book 1.28 s beside 1.01.
+// beside 465, longer than its reading, and filling that book 1.28 s beside 1.01. It reads and writes one slice at two places,
+// which no iterator lends at once.
 fn merge<K: Kind>(
     own: &mut [Entry<K::Number, K::Told>],
     blocked: usize,
