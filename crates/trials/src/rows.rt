@@ -1,6 +1,6 @@
 // Rows as tests write them.
 ghost use Rattle.fields.specs.Bytes.{padded};
-ghost use Rattle.std.specs.Prelude.{◌≡◌, ◌+◌, ◌-◌, ◌++◌, drop, length, take};
+ghost use Rattle.std.specs.Prelude.{◌≡◌, ◌+◌, ◌-◌, ◌≤◌, ◌++◌, drop, length, take};
 
 use std::alloc::AllocError;
 
@@ -29,12 +29,17 @@ pub fn add_row<F: Fn(u8) -> Option<u32>>(
     value: F,
 ) -> Result<(), AllocError>
     requires { F.IsAlwaysCallable value }
+    ensures kept { take (length bytes.old.items) bytes.new.items ≡ bytes.old.items }
+    ensures added { length bytes.new.items ≤ length bytes.old.items + length row.now }
 {
-    for run in row.as_bytes().chunk_by(|one, next| one == next) {
-        match run.first().and_then(|sign| value(*sign)) {
-            Some(value) => bytes.extend(digits(value).iter().take(run.len()))?,
-            None => bytes.extend_from_slice(run)?,
+    let mut rest = row.as_bytes();
+    while let Some((sign, after)) = rest.split_first() {
+        let count = 1 + after.iter().take_while(|next| *next == sign).count();
+        match value(*sign) {
+            Some(value) => bytes.extend_from_slice(&digits(value)[..count.min(5)])?,
+            None => bytes.extend_from_slice(&rest[..count])?,
         }
+        rest = &rest[count..];
     }
     Ok(())
 }
