@@ -32,6 +32,7 @@ pub fn add_row<F: Fn(u8) -> Option<u32>>(
     ensures kept { take (length bytes.old.items) bytes.new.items ≡ bytes.old.items }
     ensures added { length bytes.new.items ≤ length bytes.old.items + length row.now }
 {
+    // Not by `chunk_by`: in this generic function the checker refuses what it writes itself for an invariant over that iterator.
     let mut rest = row.as_bytes();
     while let Some((sign, after)) = rest.split_first() {
         let count = 1 + after.iter().take_while(|next| *next == sign).count();
