@@ -31,6 +31,7 @@ pub struct Register<'a, K: Kind> {
 
 impl<'a, K: Kind> Register<'a, K> {
     // A register without entries.
+    #[tactic(auto, using(crate::proofs::Lookups::none_ascend))]
     pub fn open(entries: &'a mut [Entry<K::Number, K::Told>]) -> Register<'a, K>
         ensures used { result.used ≡ 0 }
         ensures run { result.entries.now ≡ entries.old }
