@@ -52,6 +52,7 @@ pub(crate) fn staying<N, T>(
 }
 
 // A supplier's own entries.
+#[tactic(auto, using(crate::proofs::Split::own_are))]
 pub(crate) fn own_of<N, T>(entries: &[Entry<N, T>], supplier: u32) -> &[Entry<N, T>]
     ensures { BySupplier entries.now → result.now ≡ filter (is_own supplier) entries.now }
 {

@@ -31,6 +31,7 @@ pub struct Register<'a, K: Kind> {
 
 impl<'a, K: Kind> Register<'a, K> {
     // A register without entries.
+    #[tactic(auto, using(crate::proofs::Lookups::none_ascend))]
     pub fn open(entries: &'a mut [Entry<K::Number, K::Told>]) -> Register<'a, K>
         ensures used { result.used ≡ 0 }
         ensures run { result.entries.now ≡ entries.old }
@@ -79,6 +80,7 @@ impl<'a, K: Kind> Register<'a, K> {
     // Enters a file that may be entered, by the places of its rows' numbers; nothing, where its entries do not fit. Where
     // a number would stand twice, which `check` refuses, only the lower suppliers' entries are used after. The rows and the
     // year stay two parameters: these calls take them apart, and a struct of both would be made only to be read again.
+    #[tactic(auto, using(crate::proofs::Lookups::none_ascend))]
     pub fn enter(&mut self, rows: &Rows<'_>, year: u16, places: &[Place<K::Number>])
         ensures entered { Enterable K.Kind.meaning rows.now.supplier (row_in rows.now) K.Number.Ord.cmp self.old.entries.now self.old.used year places.now → Entered K.Kind.meaning rows.now.supplier (record_at K.Kind.meaning rows.now.supplier (row_in rows.now)) (take self.old.used self.old.entries.now) year (length places.now) (take self.new.used self.new.entries.now) }
         ensures left { length self.old.entries.now < length (entries_after K.Kind.meaning rows.now.supplier (record_at K.Kind.meaning rows.now.supplier (row_in rows.now)) (take self.old.used self.old.entries.now) year (length places.now)) → (self.new.used ≡ self.old.used) × (self.new.entries.now ≡ self.old.entries.now) }

@@ -16,11 +16,8 @@ loop-i-preserved g c =
       | else-stays_blocked w ↦ rw (w.own-is, w.count-is) (FiltersInPlace-more_no c.loop-i.invariant within (here ∙ w.if-stays_blocked.false) is)
     ]
 
-pub returns : goal.returns
-returns g c =
+pub returns-clause-count : goal.returns-clause-count
+returns-clause-count g c =
     let inv = c.loop-i.invariant in
     let front = FiltersInPlace-all inv (omega arith) in
-    record {
-      count = sym (length-take c.loop-i.count c.loop-i.own ∙ omega (arith, inv.behind, inv.within, inv.long)) ∙ (ap length front ∙ length-filter (stays_blocked c.args.year) c.args.own.now);
-      front = front;
-    }
+    sym (length-take c.loop-i.count c.loop-i.own ∙ omega (arith, inv.behind, inv.within, inv.long)) ∙ (ap length front ∙ length-filter (stays_blocked c.args.year) c.args.own.now)

@@ -15,28 +15,11 @@ use Rattle.registers.proofs.Replacing.{all_is, front_is, length_put, part_is}
 use Rattle.registers.proofs.Shifts.{length_of_part}
 use Rattle.registers.proofs.enter.replace_own.Goals as goal
 
-pub offset_bounds-entries-start : goal.offset_bounds-entries-start
-offset_bounds-entries-start g c = offset_fits _ _ _ c.well_formed.0.1 (omega arith)
-
 pub offset_bounds-entries-start-2 : goal.offset_bounds-entries-start-2
 offset_bounds-entries-start-2 g c = offset_fits _ _ _ c.well_formed.0.1 (omega arith)
 
 pub offset_bounds-entries-start-3 : goal.offset_bounds-entries-start-3
 offset_bounds-entries-start-3 g c = offset_fits _ _ _ c.well_formed.0.1 (omega arith)
-
-pub merge-requires : goal.merge-requires
-merge-requires g c =
-    let x0 = c.args.entries.now in
-    let start = c.args.own.start in
-    let end = c.args.own.end in
-    let b = c.keep_blocked-blocked.result in
-    let own = c.keep_blocked-blocked.new.own in
-    let x2 = c.shift.new.xs in
-    let n = length c.args.places.now in
-    let part-long = length_of_part x0 start end (omega arith) in
-    let few = count_by-le-length (stays_blocked c.args.year) (part start end x0) in
-    let long : length x2 ≡ length x0 = c.shift.auto.xs ∙ length_put x0 own start (end - start) (c.keep_blocked-blocked.auto.own ∙ part-long) (omega arith) in
-    length_of_part x2 start (start + b + n) (omega (arith, long, c.requires.room, c.keep_blocked-blocked.ensures.count, few, part-long)) ∙ omega arith
 
 -- the count, where no number stands twice
 answered : (b : Bool) (n : ℕ) (Y Z : Type 0) → MatchBool b Y Z → MatchOption (then_some b n) Z (λ k. (k ≡ n) × Y)

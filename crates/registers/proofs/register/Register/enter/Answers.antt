@@ -7,7 +7,6 @@ use Rattle.registers.specs.Admission.{Entered}
 use Rattle.registers.specs.Entries.{Ascending}
 use Rattle.registers.specs.Own.{Staying}
 use Rattle.registers.proofs.Entering.{room_for, run_entered, run_kept, stay_is}
-use Rattle.registers.proofs.Lookups.{none_ascend}
 use Rattle.registers.proofs.register.Register.enter.Goals as goal
 
 pub returns-then-self-stay-clause-entered : goal.returns-then-self-stay-clause-entered
@@ -19,9 +18,6 @@ returns-then-self-stay-clause-entered g c h =
     let st = subst (λ w. Staying w s c.args.year own.start own.end c.staying-start.result.1) c.run.ensures c.staying-start.ensures in
     let size = stay_is m s (record_at m s (row_in c.args.rows.now)) (take self.used self.entries.now) c.args.year (length c.args.places.now) own.start own.end c.staying-start.result.1 self.ascend st in
     absurd (omega (arith, c.if-self-stay.true, size, h.room))
-
-pub invariant_of-self : goal.invariant_of-self
-invariant_of-self g c = record { within = omega arith; ascend = none_ascend _ }
 
 pub replace_own-after-requires-clause-room : goal.replace_own-after-requires-clause-room
 replace_own-after-requires-clause-room g c =
