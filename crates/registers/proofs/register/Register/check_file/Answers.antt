@@ -1,6 +1,5 @@
 use Rattle.std.proofs.Common.{length, take, refl, ◌∙◌, subst}
 use Rattle.std.proofs.lemmas.Result.{err_from_is_err_and}
-use Rattle.std.proofs.lemmas.Bool.{false≢true}
 use Rattle.files.specs.Files.{record_at}
 use Rattle.files.specs.Rows.{row_in}
 use Rattle.registers.specs.Indexes.{Index}
@@ -9,20 +8,17 @@ use Rattle.registers.proofs.Verdict.{fault_is, indexed, missing_is, passes, rows
 use Rattle.registers.proofs.Split.{by_supplier}
 use Rattle.registers.proofs.register.Register.check_file.Goals as goal
 
-pub returns-in_err-check_rows : goal.returns-in_err-check_rows
-returns-in_err-check_rows g c =
+pub returns-in_err-check_rows-clause-first : goal.returns-in_err-check_rows-clause-first
+returns-in_err-check_rows-clause-first g c =
     let m = g.K.Kind.meaning in
     let rows = c.args.rows.now in
     let self = c.args.self.now in
     let p = err_from_is_err_and c.from_residual.result c.from_residual.ensures.1 in
     rw (p.1, p.2)
-    (record {
-      first = rows_refused m rows.supplier (record_at m rows.supplier (row_in rows)) (take self.used self.entries.now) c.args.year (length c.args.places.now) _ c.in_err-check_rows.ensures.first;
-      index = λ e. absurd (false≢true e);
-    })
+    (rows_refused m rows.supplier (record_at m rows.supplier (row_in rows)) (take self.used self.entries.now) c.args.year (length c.args.places.now) _ c.in_err-check_rows.ensures.first)
 
-pub returns-in_err-check_missing : goal.returns-in_err-check_missing
-returns-in_err-check_missing g c =
+pub returns-in_err-check_missing-clause-first : goal.returns-in_err-check_missing-clause-first
+returns-in_err-check_missing-clause-first g c =
     let m = g.K.Kind.meaning in
     let rows = c.args.rows.now in
     let s = rows.supplier in
@@ -41,10 +37,7 @@ returns-in_err-check_missing g c =
     (c.in_err-check_missing.ensures s (row_in rows)) in
     let p = err_from_is_err_and c.from_residual-in_err-check_missing.result c.from_residual-in_err-check_missing.ensures.1 in
     rw (p.1, p.2)
-    (record {
-      first = fault_is m s r es c.args.year n start end st.first st.last own _ c.in_ok-check_rows.ensures.first missing;
-      index = λ e. absurd (false≢true e);
-    })
+    (fault_is m s r es c.args.year n start end st.first st.last own _ c.in_ok-check_rows.ensures.first missing)
 
 pub returns : goal.returns
 returns g c =
