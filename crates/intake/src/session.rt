@@ -15,6 +15,7 @@ use kinds::station::{Station, StationTold};
 use registers::entry::{Entry, Id, Standing};
 use std::alloc::{AllocError, Global};
 use std::fmt::Display;
+use std::str::Lines;
 use std::{fs, io, iter};
 
 // An entry of a run that no book has filled yet.
@@ -139,13 +140,21 @@ struct Line<'a> {
     command: Result<Command<'a>, &'static str>,
 }
 
-impl Line<'_> {
-    // The rooms of the book that the line opens, if it opens one.
-    fn rooms(&self) -> Option<Rooms> {
-        match self.command {
-            Ok(Command::Open(rooms)) => Some(rooms),
-            _ => None,
-        }
+// A line that opens a book, by its number, and the rooms of the book.
+#[derive(Clone, Copy)]
+struct Opening {
+    line: usize,
+    rooms: Rooms,
+}
+
+// What the line after so many opens, if it opens a book.
+fn opened_by(before: usize, text: &str) -> Option<Opening> {
+    match parse(text) {
+        Ok(Command::Open(rooms)) => Some(Opening {
+            line: before.saturating_add(1),
+            rooms,
+        }),
+        _ => None,
     }
 }
 
@@ -175,37 +184,46 @@ fn carry_out(rt: &HostRuntime, book: &mut Book<'_>, line: &Line<'_>) -> io::Resu
     }
 }
 
-// Carries out some lines with a book of their own. The first book of a script is opened by no line.
-fn use_book(rt: &HostRuntime, opened: Option<Rooms>, lines: &[Line<'_>]) -> io::Result<Status> {
-    let mut runs = Runs::new(rt.alloc(), opened.unwrap_or(FIRST_ROOMS))?;
-    if opened.is_some() {
+// Carries out lines with a book of their own, up to the line that opens the next one. The first book of a script is opened by
+// no line.
+fn use_book(
+    rt: &HostRuntime,
+    opening: Option<Opening>,
+    lines: &mut Lines<'_>,
+) -> io::Result<Status> {
+    let rooms = opening.map_or(FIRST_ROOMS, |opening| opening.rooms);
+    let mut runs = Runs::new(rt.alloc(), rooms)?;
+    if opening.is_some() {
         println!(rt; "opened")?;
     }
     let mut book = runs.book();
     let mut status = Status::Done;
-    for line in lines {
-        status = status.and(carry_out(rt, &mut book, line)?);
+    let mut number = opening.map_or(0, |opening| opening.line);
+    for text in lines {
+        number = number.saturating_add(1);
+        let line = Line {
+            number,
+            command: parse(text),
+        };
+        if let Ok(Command::Open(_)) = line.command {
+            break;
+        }
+        status = status.and(carry_out(rt, &mut book, &line)?);
     }
     Ok(status)
 }
 
+// No line is kept but the one at hand, so that a script takes no memory beside its text, however many lines it has.
 pub fn run(rt: &HostRuntime, script: &str) -> io::Result<Status> {
-    let lines: Vec<Line<'_>> = script
+    let openings = script
         .lines()
         .enumerate()
-        .map(|(i, text)| Line {
-            number: i.saturating_add(1),
-            command: parse(text),
-        })
-        .collect(rt.alloc())?;
-    let opened = lines
-        .iter()
-        .map(|line| line.rooms())
-        .filter(|rooms| rooms.is_some());
-    let books = lines.as_slice().split(|line| line.rooms().is_some());
+        .map(|(i, text)| opened_by(i, text))
+        .filter(|opening| opening.is_some());
+    let mut lines = script.lines();
     let mut status = Status::Done;
-    for (rooms, lines) in iter::once(None).chain(opened).zip(books) {
-        status = status.and(use_book(rt, rooms, lines)?);
+    for opening in iter::once(None).chain(openings) {
+        status = status.and(use_book(rt, opening, &mut lines)?);
     }
     Ok(status)
 }

@@ -11,7 +11,7 @@ use fields::bytes::{number_in, part};
 use fields::flags::{KeyFlag, is_amended};
 use fields::rule::FieldType::{Alphanumeric, Numeric};
 use fields::rule::Need::{Mandatory, Optional};
-use fields::rule::{Content, Field};
+use fields::rule::{Content, Context, Field};
 use fields::text::Text;
 use std::fmt;
 
@@ -163,8 +163,6 @@ impl Kind for FareTable {
 
     ghost supplied = { λ s row e. refl };
 
-    ghost referred = { λ s row. refl };
-
     ghost unchanged = { λ t r d. fare_table_same t r };
 
     ghost alike = { λ t r d. same_fare_table t r };
@@ -206,6 +204,14 @@ impl Kind for FareTable {
 
     fn order(&self) -> u32 {
         self.number
+    }
+
+    fn context(&self, supplier: u32, _row: &[u8]) -> Context {
+        Context {
+            supplier,
+            number: self.number,
+            key_flag: self.key_flag,
+        }
     }
 
     fn marks(&self, older: &FareTableTold) -> [bool; 10] {

@@ -64,6 +64,10 @@ pub trait Kind: Copy {
     fn order(&self) -> Self::Key
         ensures { result ≡ meaning.order self.now };
 
+    // What the rules of this record's row refer to: each kind's own, since the meaning leaves it open.
+    fn context(&self, supplier: u32, row: &[u8]) -> Context
+        ensures { self.now ≡ meaning.values supplier row.now → result ≡ meaning.context supplier row.now };
+
     // Beside each line of the cover table, whether the told field differs from the older one or the flag counts 3.
     fn marks(&self, older: &Self::Told) -> Self::Marks
         ensures { Self.Marks.items result ≡ meaning.marks older.now self.now };
@@ -77,10 +81,8 @@ pub trait Kind: Copy {
 
     ghost ordered: { (x y : Self.Key) (r : Ordering) → (r ≡ Self.Key.Ord.cmp x y) → r ≡ meaning.file_order.cmp x y };
 
-    // A record bears the supplier its row is read under, and the rules of a row refer to its own number and key flag.
+    // A record bears the supplier its row is read under.
     ghost supplied: { (s : ℕ) (row : List ℕ) → (reads meaning s row ≡ Ok (meaning.values s row)) → meaning.supplier (meaning.values s row) ≡ s };
-
-    ghost referred: { (s : ℕ) (row : List ℕ) → meaning.context s row ≡ record { supplier = s; number = meaning.record_number (meaning.number (meaning.values s row)); key_flag = meaning.key_flag (meaning.values s row) } };
 
     // Of a deletion, no mark of a told field is set exactly where all told fields are the older ones.
     ghost unchanged: { (t : Self.Told) (r : Self) → (meaning.key_flag r ≡ Deletion) → Unchanged meaning.lines (meaning.marks t r) → t ≡ meaning.told r };
@@ -93,12 +95,7 @@ pub trait Kind: Copy {
         ensures supplier { OnOk result (meaning.supplier self.new ≡ supplier) }
     {
         let record = Self::values(supplier, row);
-        let context = Context {
-            supplier,
-            number: Self::record_number(record.number()),
-            key_flag: record.key_flag(),
-        };
-        check(Self::layout(), &context, row)?;
+        check(Self::layout(), &record.context(supplier, row), row)?;
         *self = record;
         Ok(())
     }

@@ -12,7 +12,7 @@ use fields::class::Class;
 use fields::flags::{KeyFlag, is_amended};
 use fields::rule::FieldType::{Alphanumeric, Numeric};
 use fields::rule::Need::{Mandatory, Optional};
-use fields::rule::{Content, Field};
+use fields::rule::{Content, Context, Field};
 use fields::text::Text;
 use std::fmt;
 use std::ops::RangeInclusive;
@@ -225,8 +225,6 @@ impl Kind for Series {
 
     ghost supplied = { λ s row e. refl };
 
-    ghost referred = { λ s row. refl };
-
     ghost unchanged = { λ t r d. series_same t r };
 
     ghost alike = { λ t r d. same_series t r };
@@ -271,6 +269,14 @@ impl Kind for Series {
             departure: self.told.departure.designation,
             destination: self.told.destination.designation,
             route_number: self.told.route_number,
+        }
+    }
+
+    fn context(&self, supplier: u32, _row: &[u8]) -> Context {
+        Context {
+            supplier,
+            number: self.number,
+            key_flag: self.key_flag,
         }
     }
 

@@ -11,7 +11,7 @@ use fields::bytes::{number_in, part};
 use fields::flags::{KeyFlag, is_amended};
 use fields::rule::FieldType::{Alphanumeric, Numeric};
 use fields::rule::Need::{Mandatory, Optional};
-use fields::rule::{Content, Field};
+use fields::rule::{Content, Context, Field};
 use fields::text::Text;
 use std::fmt;
 
@@ -121,8 +121,6 @@ impl Kind for Station {
 
     ghost supplied = { λ s row e. refl };
 
-    ghost referred = { λ s row. refl };
-
     ghost unchanged = { λ t r d. station_same t r };
 
     ghost alike = { λ t r d. same_station t r };
@@ -163,6 +161,14 @@ impl Kind for Station {
 
     fn order(&self) -> Text<17> {
         self.told.designation
+    }
+
+    fn context(&self, supplier: u32, _row: &[u8]) -> Context {
+        Context {
+            supplier,
+            number: self.number,
+            key_flag: self.key_flag,
+        }
     }
 
     fn marks(&self, older: &StationTold) -> [bool; 8] {
