@@ -3,7 +3,7 @@ ghost use Rattle.registers.specs.declared.entry.Standing.TheVariants.{Retired};
 ghost use Rattle.std.specs.Prelude.{◌≡◌};
 
 use crate::reading::Reading;
-use crate::script::{Command, FIRST_ROOMS, Letter, Rooms, parse};
+use crate::script::{Command, FIRST_ROOMS, Letter, Rooms, opened, parse};
 use crate::status::Status;
 use books::book::Book;
 use books::find::{Booked, Found};
@@ -147,17 +147,6 @@ struct Opening {
     rooms: Rooms,
 }
 
-// What the line after so many opens, if it opens a book.
-fn opened_by(before: usize, text: &str) -> Option<Opening> {
-    match parse(text) {
-        Ok(Command::Open(rooms)) => Some(Opening {
-            line: before.saturating_add(1),
-            rooms,
-        }),
-        _ => None,
-    }
-}
-
 // Carries out a line that opens no book.
 fn carry_out(rt: &HostRuntime, book: &mut Book<'_>, line: &Line<'_>) -> io::Result<Status> {
     match line.command {
@@ -218,7 +207,12 @@ pub fn run(rt: &HostRuntime, script: &str) -> io::Result<Status> {
     let openings = script
         .lines()
         .enumerate()
-        .map(|(i, text)| opened_by(i, text))
+        .map(|(i, text)| {
+            opened(text).map(|rooms| Opening {
+                line: i.saturating_add(1),
+                rooms,
+            })
+        })
         .filter(|opening| opening.is_some());
     let mut lines = script.lines();
     let mut status = Status::Done;
