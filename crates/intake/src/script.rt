@@ -73,18 +73,14 @@ fn end(mut words: SplitWhitespace<'_>) -> Option<()> {
     words.next().is_none().then_some(())
 }
 
-fn three_rooms(mut words: SplitWhitespace<'_>) -> Option<Rooms> {
+fn open<'a>(mut words: SplitWhitespace<'_>) -> Option<Command<'a>> {
     let rooms = Rooms {
         stations: number(words.next(), 9)? as usize,
         series: number(words.next(), 9)? as usize,
         tables: number(words.next(), 9)? as usize,
     };
     end(words)?;
-    Some(rooms)
-}
-
-fn open<'a>(words: SplitWhitespace<'_>) -> Option<Command<'a>> {
-    Some(Command::Open(three_rooms(words)?))
+    Some(Command::Open(rooms))
 }
 
 fn find<'a>(mut words: SplitWhitespace<'_>) -> Option<Command<'a>> {
@@ -133,15 +129,5 @@ pub fn parse(line: &str) -> Result<Command<'_>, &'static str> {
             "join takes a supplier of four digits and two station codes: join SSSS A B",
         ),
         _ => Err("there is no such command"),
-    }
-}
-
-// The rooms of the book that a line opens, if it opens one. A line of any other word is not parsed.
-pub fn opened(line: &str) -> Option<Rooms> {
-    let mut words = line.split_whitespace();
-    if words.next()? == "open" {
-        three_rooms(words)
-    } else {
-        None
     }
 }

@@ -3,7 +3,7 @@ ghost use Rattle.registers.specs.declared.entry.Standing.TheVariants.{Retired};
 ghost use Rattle.std.specs.Prelude.{◌≡◌};
 
 use crate::reading::Reading;
-use crate::script::{Command, FIRST_ROOMS, Letter, Rooms, opened, parse};
+use crate::script::{Command, FIRST_ROOMS, Letter, Rooms, parse};
 use crate::status::Status;
 use books::book::Book;
 use books::find::{Booked, Found};
@@ -16,7 +16,7 @@ use registers::entry::{Entry, Id, Standing};
 use std::alloc::{AllocError, Global};
 use std::fmt::Display;
 use std::str::Lines;
-use std::{fs, io, iter};
+use std::{fs, io};
 
 // An entry of a run that no book has filled yet.
 pub fn vacant<T: Copy>() -> Entry<u32, T>
@@ -173,13 +173,20 @@ fn carry_out(rt: &HostRuntime, book: &mut Book<'_>, line: &Line<'_>) -> io::Resu
     }
 }
 
+// How the lines of a book ended, and what opens the next one.
+#[derive(Clone, Copy)]
+struct Ended {
+    status: Status,
+    next: Option<Opening>,
+}
+
 // Carries out lines with a book of their own, up to the line that opens the next one. The first book of a script is opened by
 // no line.
 fn use_book(
     rt: &HostRuntime,
     opening: Option<Opening>,
     lines: &mut Lines<'_>,
-) -> io::Result<Status> {
+) -> io::Result<Ended> {
     let rooms = opening.map_or(FIRST_ROOMS, |opening| opening.rooms);
     let mut runs = Runs::new(rt.alloc(), rooms)?;
     if opening.is_some() {
@@ -194,30 +201,32 @@ fn use_book(
             number,
             command: parse(text),
         };
-        if let Ok(Command::Open(_)) = line.command {
-            break;
+        if let Ok(Command::Open(rooms)) = line.command {
+            let next = Some(Opening {
+                line: number,
+                rooms,
+            });
+            return Ok(Ended { status, next });
         }
         status = status.and(carry_out(rt, &mut book, &line)?);
     }
-    Ok(status)
+    Ok(Ended { status, next: None })
 }
 
-// No line is kept but the one at hand, so that a script takes no memory beside its text, however many lines it has.
+// The text is walked once, and no line is kept but the one at hand: kept parsed, a line takes 48 bytes, and a walk of their own
+// to find the lines that open a book costs half as much again where lines are long.
 pub fn run(rt: &HostRuntime, script: &str) -> io::Result<Status> {
-    let openings = script
-        .lines()
-        .enumerate()
-        .map(|(i, text)| {
-            opened(text).map(|rooms| Opening {
-                line: i.saturating_add(1),
-                rooms,
-            })
-        })
-        .filter(|opening| opening.is_some());
     let mut lines = script.lines();
+    let mut opening = None;
     let mut status = Status::Done;
-    for opening in iter::once(None).chain(openings) {
-        status = status.and(use_book(rt, opening, &mut lines)?);
+    // each turn but the last ends at a line that opens a book
+    for _ in 0..u64::MAX {
+        let ended = use_book(rt, opening, &mut lines)?;
+        status = status.and(ended.status);
+        opening = ended.next;
+        if opening.is_none() {
+            break;
+        }
     }
     Ok(status)
 }
