@@ -213,8 +213,8 @@ fn use_book(
     Ok(Ended { status, next: None })
 }
 
-// The text is walked once, and no line is kept but the one at hand: kept parsed, a line takes 48 bytes, and a walk of their own
-// to find the lines that open a book costs half as much again where lines are long.
+// The text is walked once, and no line is kept but the one at hand: a parsed line takes 48 bytes, and a second walk, to find the
+// lines that open a book, takes a third more time where lines are long.
 pub fn run(rt: &HostRuntime, script: &str) -> io::Result<Status> {
     let mut lines = script.lines();
     let mut opening = None;
